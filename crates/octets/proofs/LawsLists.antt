@@ -1,0 +1,22 @@
+-- Laws of lists that the code's places and parts ask for. Assumes nothing.
+use mathlib.Core.Path.{_≡_, sym}
+use mathlib.Core.List.{List, [], _∷_}
+use Prim.Native.Nat.{ℕ, zero, suc, _+_, _<_}
+use native.Mathlib.Omega.{arith}
+use native.Mathlib.Numerals.{add-one}
+use lib.ListN.{length, getD, take, drop}
+use lib.Seq.{drop-cons, getD-drop}
+use Rattle.octets.specs.Octets.{Octets}
+
+-- one element of what is left of a list, with the code's i + 1
+pub drop-next : (xs : List ℕ) (i : ℕ) → i < length xs → drop i xs ≡ getD xs i 0 ∷ drop (i + 1) xs
+drop-next xs i h = rw (add-one, drop-cons xs i 0)
+
+pub octets-drop : (n : ℕ) (xs : List ℕ) → Octets xs → Octets (drop n xs)
+octets-drop n xs o k = rw (getD-drop n xs k 0) (o (n + k))
+
+pub octets-take : (n : ℕ) (xs : List ℕ) → Octets xs → Octets (take n xs)
+octets-take zero xs o k = omega arith
+octets-take (suc n) [] o k = omega arith
+octets-take (suc n) (x ∷ xs) o zero = o zero
+octets-take (suc n) (x ∷ xs) o (suc k) = octets-take n xs (λ j. o (suc j)) k

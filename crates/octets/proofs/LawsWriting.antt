@@ -1,0 +1,26 @@
+-- Writers chain: one that goes on where another stopped wrote both. Assumes nothing.
+use mathlib.Core.Path.{_≡_, sym, ap, ap₂, _∙_}
+use mathlib.Core.List.{List, [], _∷_, _++_}
+use Prim.Native.Nat.{ℕ, suc, _+_}
+use native.Mathlib.Omega.{arith}
+use native.Mathlib.Nat.{add-zero}
+use lib.ListN.{length, set, length-append}
+use lib.Seq.{sets}
+use Rattle.octets.specs.Writing.{Wrote}
+
+sets-append : (xs l : List ℕ) (at : ℕ) (ys : List ℕ) → sets (sets l at xs) (at + length xs) ys ≡ sets l at (xs ++ ys)
+sets-append [] l at ys = ap (λ k. sets l k ys) (add-zero at)
+sets-append (x ∷ xs) l at ys =
+    let e : at + suc (length xs) ≡ suc at + length xs = omega arith in
+    ap (λ k. sets (sets (set l at x) (suc at) xs) k ys) e ∙ sets-append xs (set l at x) (suc at) ys
+
+-- what is still to be put, after a writer, is the whole
+pub wrote-then : {s t : List ℕ} {at next : ℕ} {xs : List ℕ} (ys : List ℕ) → Wrote s t at next xs → sets t next ys ≡ sets s at (xs ++ ys)
+wrote-then {s} {t} {at} {next} {xs} ys w = ap₂ (λ l k. sets l k ys) (w .held) (w .end) ∙ sets-append xs s at ys
+
+pub wrote-both : {s t u : List ℕ} {at mid next : ℕ} {xs ys : List ℕ} → Wrote s t at mid xs → Wrote t u mid next ys → Wrote s u at next (xs ++ ys)
+wrote-both {xs = xs} {ys = ys} v w =
+    record {
+      held = w .held ∙ wrote-then ys v;
+      end = omega (arith, v .end, w .end, length-append xs ys);
+    }

@@ -1,0 +1,5 @@
+pub mod LawsTests
+pub mod LawsLists
+pub mod LawsWriting
+pub mod LawsLittleEndian
+pub mod LittleEndianRoundTrip

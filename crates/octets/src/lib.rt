@@ -1,0 +1,7 @@
+// Little-endian numbers of up to four octets, and the shape that every writer of octets has.
+mod little_endian;
+mod write;
+
+pub use little_endian::read_le;
+pub use little_endian::write_le;
+pub use write::write_octet;

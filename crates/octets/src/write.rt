@@ -1,0 +1,13 @@
+// A writer puts octets into lent space from a place on and returns the place after them.
+ghost use mathlib.Core.List.{[], _∷_};
+ghost use Prim.Native.Nat.{_<_};
+ghost use lib.ListN.{length};
+ghost use Rattle.octets.specs.Writing.{Wrote};
+
+pub fn write_octet(out: &mut [u8], at: usize, octet: u8) -> usize
+    requires { ⌜ at < length (now out) ⌝ }
+    ensures { λ next. ⌜ Wrote (now (out .entry)) (now (out .exit)) at next (octet ∷ []) ⌝ }
+{
+    out[at] = octet;
+    at + 1
+}
