@@ -1,3 +1,4 @@
 pub mod Octets
+pub mod Runs
 pub mod LittleEndian
 pub mod Writing

@@ -1,0 +1,85 @@
+-- PROMISE: what one call gives, in closed form. From any reader that keeps its rules and any assembly buffer of 1,302 octets or more,
+-- fate, octets read, reader and buffer at exit are those of the piece that the call ended in: the buffer holds its gathered octets, at
+-- most 1,302, from the front, and beyond them what it held. Assumes nothing.
+use mathlib.Core.Bool.{Bool, true, false, cond, true≢false, false≢true}
+use mathlib.Core.Path.{_≡_, refl, sym, ap, ap₂, _∙_}
+use mathlib.Core.List.{List, [], _∷_, _++_, append-nil}
+use Prim.Native.Nat.{ℕ, _+_, _≤_, _<_}
+use native.Mathlib.Omega.{arith}
+use borrow.Author.Tests.{ltb-false, eqb-true, lt-ltb, le-ltb}
+use lib.Dec.{ltb, eqb}
+use lib.ListN.{length, take, drop, length-append, take-append-drop}
+use lib.Seq.{length-take-le, take-at}
+use Rattle.octets.specs.Runs.{emitted}
+use Rattle.octets.proofs.LawsTests.{by-test}
+use Rattle.hdlc.specs.declared.kind.Kind.{Kind}
+use Rattle.hdlc.specs.declared.kind.Kind.the-variants.{Flag, Escape, Skipped, Plain}
+use Rattle.hdlc.specs.declared.reader.Reader.{Reader}
+use Rattle.hdlc.specs.Kinds.{kindOf}
+use Rattle.hdlc.specs.Frame.{stuffed}
+use Rattle.hdlc.specs.Reading.{decided, mostGathered, gathering, overlong, fresh, Held, held, afterKind, after, fateAt, Outcome, later, run}
+use Rattle.hdlc.specs.Rules.{Rules, rules}
+use Rattle.hdlc.specs.Wire.{kept, meant, pends, gathered, cutEscape, verdictAs, verdictAt, grown, Call, laterCall, call}
+use Rattle.hdlc.specs.Histories.{readerAfter, over, holding, openPiece, closed}
+use Rattle.hdlc.proofs.LawsPieces.{gathered-append, cut-append}
+use Rattle.hdlc.proofs.LawsStates.{over-few, over-more, going, thrown, fate-verdict, after-undecided, after-decided}
+use Rattle.hdlc.proofs.LawsStuffing.{stuffed-gives, spelled}
+
+-- ---- after a piece
+
+pub call-closed : (xs p a : List ℕ) → mostGathered ≤ length a → run (holding p a) xs ≡ closed (call p xs) a
+unfolding run call closed holding
+call-closed [] p a room = refl
+call-closed (b ∷ bs) p a room =
+    by-test (decided (verdictAt p b))
+    (λ t.
+    simp (fate-verdict p a b, t) (λ i. record { fate = verdictAt p b; read = 1; held = after-decided p a b t i }))
+    (λ t.
+    simp (fate-verdict p a b, t, after-undecided p a b room t) (ap (later 1) (call-closed bs (grown p b) a room)))
+
+-- ---- from any reader that keeps its rules
+
+-- octets that were in the buffer, put over it again
+over-itself : (a : List ℕ) → mostGathered ≤ length a → over (take mostGathered a) a ≡ a
+over-itself a room =
+    let size : length (take mostGathered a) ≡ mostGathered = length-take-le mostGathered a room in
+    over-few (take mostGathered a) a (omega arith) ∙ ap (λ n. take mostGathered a ++ drop n a) size ∙ take-append-drop mostGathered a
+
+gathers : (r : Reader) (a : List ℕ) → Rules r → mostGathered ≤ length a → r .discarding ≡ false → held r a ≡ holding (openPiece r a) a
+unfolding openPiece
+gathers r a keeps room t =
+    let xs : List ℕ = take (r .count) a in
+    let p : List ℕ = stuffed xs ++ cond (r .escaped) (0x7d ∷ []) [] in
+    let size : length xs ≡ r .count = length-take-le (r .count) a (omega (arith, keeps .count)) in
+    let s : (gathered p ≡ xs) × (cutEscape p ≡ r .escaped) = spelled xs (r .escaped) in
+    let few : length (gathered p) ≤ mostGathered = omega (arith, keeps .count, ap length (s .0)) in
+    let is : r ≡ gathering (r .count) (r .escaped) = λ i. record { count = r .count; escaped = r .escaped; discarding = t i } in
+    ap (λ z. held z a) is
+    ∙ sym
+    (ap (λ z. holding (cond z (stuffed (take mostGathered a ++ (0 ∷ []))) p) a) t
+    ∙ going p a few
+    ∙ ap₂ (λ g z. held (gathering (length g) z) (g ++ drop (length g) a)) (s .0) (s .1)
+    ∙ ap (λ n. held (gathering n (r .escaped)) (xs ++ drop n a)) size
+    ∙ ap (held (gathering (r .count) (r .escaped))) (take-append-drop (r .count) a))
+
+discards : (r : Reader) (a : List ℕ) → Rules r → mostGathered ≤ length a → r .discarding ≡ true → held r a ≡ holding (openPiece r a) a
+unfolding openPiece
+discards r a keeps room t =
+    let xs : List ℕ = take mostGathered a in
+    let p : List ℕ = stuffed (xs ++ (0 ∷ [])) in
+    let size : length xs ≡ mostGathered = length-take-le mostGathered a room in
+    let s : gathered p ≡ xs ++ (0 ∷ []) = stuffed-gives (xs ++ (0 ∷ [])) .0 in
+    let many : mostGathered < length (gathered p) = omega (arith, ap length s, length-append xs (0 ∷ [])) in
+    let is : r ≡ overlong = λ i. record { count = keeps .discard t .0 i; escaped = keeps .discard t .1 i; discarding = t i } in
+    ap (λ z. held z a) is
+    ∙ sym
+    (ap (λ z. holding (cond z p (stuffed (take (r .count) a) ++ cond (r .escaped) (0x7d ∷ []) [])) a) t
+    ∙ thrown p a many
+    ∙ ap (held overlong) (ap (λ g. over g a) s ∙ over-more xs (0 ∷ []) a (omega arith) ∙ over-itself a room))
+
+-- what is open in a reader leaves that reader
+pub open-holds : (r : Reader) (a : List ℕ) → Rules r → mostGathered ≤ length a → held r a ≡ holding (openPiece r a) a
+open-holds r a keeps room = by-test (r .discarding) (discards r a keeps room) (gathers r a keeps room)
+
+pub closed-form : (r : Reader) (a xs : List ℕ) → Rules r → mostGathered ≤ length a → run (held r a) xs ≡ closed (call (openPiece r a) xs) a
+closed-form r a xs keeps room = ap (λ h. run h xs) (open-holds r a keeps room) ∙ call-closed xs (openPiece r a) a room

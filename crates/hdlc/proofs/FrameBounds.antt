@@ -1,0 +1,41 @@
+-- PROMISE: a body of n octets takes at least n + 4 and at most 2 n + 6 octets framed (01, Octets on the wire). Assumes nothing.
+use mathlib.Core.List.{List, [], _∷_, _++_}
+use Prim.Native.Nat.{ℕ, _+_, _*_, _≤_}
+use native.Mathlib.Omega.{arith}
+use lib.ListN.{length, length-append}
+use Rattle.octets.specs.LittleEndian.{leOctets}
+use Rattle.octets.proofs.LawsLittleEndian.{length-le}
+use Rattle.hdlc.specs.declared.kind.Kind.{Kind}
+use Rattle.hdlc.specs.declared.kind.Kind.the-variants.{Flag, Escape, Skipped, Plain}
+use Rattle.hdlc.specs.Kinds.{kindOf}
+use Rattle.hdlc.specs.Fcs.{fcs}
+use Rattle.hdlc.specs.Frame.{sentAs, sent, stuffed, checked, frame}
+
+sent-bounds : (b : ℕ) → (1 ≤ length (sent b)) × (length (sent b) ≤ 2)
+unfolding sent
+sent-bounds b = by-kind (kindOf b)
+  where
+    by-kind : (k : Kind) → (1 ≤ length (sentAs k b)) × (length (sentAs k b) ≤ 2)
+    by-kind Flag = omega arith
+    by-kind Escape = omega arith
+    by-kind Skipped = omega arith
+    by-kind Plain = omega arith
+
+stuffed-bounds : (xs : List ℕ) → (length xs ≤ length (stuffed xs)) × (length (stuffed xs) ≤ 2 * length xs)
+unfolding stuffed
+stuffed-bounds [] = omega arith
+stuffed-bounds (x ∷ xs) =
+    let one = sent-bounds x in
+    let rest = stuffed-bounds xs in
+    omega (arith, length-append (sent x) (stuffed xs))
+
+pub frame-bounds : (body : List ℕ) → (length body + 4 ≤ length (frame body)) × (length (frame body) ≤ 2 * length body + 6)
+unfolding frame checked
+frame-bounds body =
+    let stuff = stuffed-bounds (body ++ leOctets 2 (fcs body)) in
+    omega (
+      arith,
+      length-append (stuffed (body ++ leOctets 2 (fcs body))) (0x7e ∷ []),
+      length-append body (leOctets 2 (fcs body)),
+      length-le 2 (fcs body),
+    )

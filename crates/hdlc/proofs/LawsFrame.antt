@@ -1,0 +1,71 @@
+-- Laws of written frames: octets as they are sent, one by one, and a frame in the order in which it is written. Assumes nothing.
+use types.Run.{OneOf, miss}
+use denote.Enum.Declared.{tagOf}
+use mathlib.Core.Path.{_≡_, refl, sym, ap, _∙_}
+use mathlib.Core.List.{List, [], _∷_, _++_, append-assoc}
+use Prim.Native.Nat.{ℕ, _+_, _<_, _≤_}
+use native.Mathlib.Nat.{zero-add}
+use native.Mathlib.Omega.{arith}
+use lib.Bits.{bitXor}
+use lib.ListN.{length, getD, drop, length-append, drop-of-length-le}
+use lib.Seq.{sets-eq}
+use Rattle.octets.specs.LittleEndian.{leOctets}
+use Rattle.octets.specs.Writing.{Wrote}
+use Rattle.octets.proofs.LawsLists.{drop-next}
+use Rattle.hdlc.specs.declared.kind.Kind.{Kind}
+use Rattle.hdlc.specs.declared.kind.Kind.the-variants.{Flag, Escape, Skipped, Plain}
+use Rattle.hdlc.specs.Kinds.{kindOf}
+use Rattle.hdlc.specs.Fcs.{fcs}
+use Rattle.hdlc.specs.Frame.{sentAs, sent, stuffed, checked, frame, written, writing}
+use Rattle.hdlc.proofs.kind.Kind.{the-type as kind-type}
+
+pub sent-plain : {k : Kind} (b : ℕ) → k ≡ kindOf b → k ≡ Plain → sent b ≡ b ∷ []
+unfolding sent
+sent-plain b e p = ap (λ k. sentAs k b) (sym e ∙ p)
+
+-- the `else` of an `if let` tells that the tag is one of the others
+as-escaped : (k : Kind) (b : ℕ) → OneOf (0 ∷ 1 ∷ 2 ∷ []) (tagOf kind-type k) → sentAs k b ≡ 0x7d ∷ bitXor b 0x20 ∷ []
+as-escaped Flag b o = refl
+as-escaped Escape b o = refl
+as-escaped Skipped b o = refl
+as-escaped Plain b o = absurd (miss (0 ∷ 1 ∷ 2 ∷ []) 3 tt o)
+
+pub sent-escaped : {k : Kind} (b : ℕ) → k ≡ kindOf b → OneOf (0 ∷ 1 ∷ 2 ∷ []) (tagOf kind-type k) → sent b ≡ 0x7d ∷ bitXor b 0x20 ∷ []
+unfolding sent
+sent-escaped {k} b e o = ap (λ k. sentAs k b) (sym e) ∙ as-escaped k b o
+
+pub stuffed-append : (xs ys : List ℕ) → stuffed (xs ++ ys) ≡ stuffed xs ++ stuffed ys
+unfolding stuffed
+stuffed-append [] ys = refl
+stuffed-append (x ∷ xs) ys = ap (λ zs. sent x ++ zs) (stuffed-append xs ys) ∙ sym (append-assoc (sent x) (stuffed xs) (stuffed ys))
+
+pub stuffed-next : (xs : List ℕ) (i : ℕ) → i < length xs → stuffed (drop i xs) ≡ sent (getD xs i 0) ++ stuffed (drop (i + 1) xs)
+unfolding stuffed
+stuffed-next xs i h = ap stuffed (drop-next xs i h)
+
+pub stuffed-next-length : (xs : List ℕ) (i : ℕ) → i < length xs
+    → length (stuffed (drop i xs)) ≡ length (sent (getD xs i 0)) + length (stuffed (drop (i + 1) xs))
+stuffed-next-length xs i h = ap length (stuffed-next xs i h) ∙ length-append (sent (getD xs i 0)) _
+
+pub stuffed-done : (xs : List ℕ) (i : ℕ) → length xs ≤ i → stuffed (drop i xs) ≡ []
+unfolding stuffed
+stuffed-done xs i h = ap stuffed (drop-of-length-le xs h)
+
+-- ---- a frame in the order in which it is written
+
+module _ (body : List ℕ) {check : List ℕ} (e : check ≡ leOctets 2 (fcs body)) where
+  pub frame-parts : frame body ≡ (0x7e ∷ []) ++ (stuffed body ++ (stuffed check ++ (0x7e ∷ [])))
+  unfolding frame checked
+  frame-parts = rw (stuffed-append, append-assoc, e)
+
+  pub frame-length : length (frame body) ≡ length (stuffed body) + (length (stuffed check) + 2)
+  frame-length = ap length frame-parts ∙ simp length-append (omega arith)
+
+-- a frame that is written from the front
+pub frame-written : {out out′ : List ℕ} {next : ℕ} (body : List ℕ) → length (frame body) ≤ length out
+    → Wrote out out′ 0 next (frame body) → written next out′ ≡ writing body out
+unfolding writing
+frame-written {out} body room w =
+    let z = zero-add (length (frame body)) in
+    let held = w .held ∙ sets-eq (frame body) out 0 (rw z room) ∙ ap (λ n. frame body ++ drop n out) z in
+    λ i. record { count = (w .end ∙ z) i; output = held i }

@@ -1,0 +1,50 @@
+-- Laws of reading: what a fate's tag tells, and a call's outcome octet by octet, as the code's loop goes. Assumes nothing.
+use types.Run.{OneOf, miss}
+use denote.Enum.Declared.{tagOf}
+use mathlib.Core.Bool.{true, false}
+use mathlib.Core.Path.{_≡_, refl, sym, ap, _∙_}
+use mathlib.Core.List.{List, [], _∷_}
+use Prim.Native.Nat.{ℕ, _+_, _<_, _≤_}
+use native.Mathlib.Nat.{zero-add, add-zero, add-assoc}
+use lib.ListN.{length, getD, drop, drop-of-length-le}
+use Rattle.octets.proofs.LawsLists.{drop-next}
+use Rattle.hdlc.specs.declared.reader.Fate.{Fate}
+use Rattle.hdlc.specs.declared.reader.Fate.the-variants.{Unfinished, Checked, Short, WrongCheck, TooLong, CutEscape, BadHeader}
+use Rattle.hdlc.specs.Reading.{Held, after, fateAt, decided, Outcome, later, run}
+use Rattle.hdlc.proofs.reader.Fate.{the-type as fate-type}
+
+-- the `else` of an `if let` tells that the tag is one of the others
+pub tag-decided : (f : Fate) → OneOf (1 ∷ 2 ∷ 3 ∷ 4 ∷ 5 ∷ 6 ∷ []) (tagOf fate-type f) → true ≡ decided f
+tag-decided Unfinished o = absurd (miss (1 ∷ 2 ∷ 3 ∷ 4 ∷ 5 ∷ 6 ∷ []) 0 tt o)
+tag-decided (Checked n) o = refl
+tag-decided Short o = refl
+tag-decided WrongCheck o = refl
+tag-decided TooLong o = refl
+tag-decided CutEscape o = refl
+tag-decided BadHeader o = refl
+
+pub later-zero : (o : Outcome) → later 0 o ≡ o
+later-zero o = λ i. record { fate = o .fate; read = zero-add (o .read) i; held = o .held }
+
+pub later-later : (m n : ℕ) (o : Outcome) → later m (later n o) ≡ later (m + n) o
+later-later m n o = λ i. record { fate = o .fate; read = sym (add-assoc m n (o .read)) i; held = o .held }
+
+-- ---- the outcome of what is left from `at` on
+
+pub run-end : (h : Held) (xs : List ℕ) (at : ℕ) → length xs ≤ at
+    → later at (run h (drop at xs)) ≡ record { fate = Unfinished; read = at; held = h }
+unfolding run
+run-end h xs at p =
+    ap (λ ys. later at (run h ys)) (drop-of-length-le xs p) ∙ (λ i. record { fate = Unfinished; read = add-zero at i; held = h })
+
+-- after one octet more, which gives the fate f and the state g
+module _
+    (h : Held) (xs : List ℕ) (at : ℕ) (inside : at < length xs)
+    {f : Fate} {g : Held} (fate : f ≡ fateAt h (getD xs at 0)) (next : g ≡ after h (getD xs at 0)) where
+  pub run-next : decided f ≡ false → later at (run h (drop at xs)) ≡ later (at + 1) (run g (drop (at + 1) xs))
+  unfolding run
+  run-next e = ap (λ ys. later at (run h ys)) (drop-next xs at inside) ∙ rw (← fate, ← next, e) (later-later at 1 _)
+
+  pub run-decided : decided f ≡ true → later at (run h (drop at xs)) ≡ record { fate = f; read = at + 1; held = g }
+  unfolding run
+  run-decided e = ap (λ ys. later at (run h ys)) (drop-next xs at inside) ∙ rw (← fate, ← next, e)

@@ -1,0 +1,13 @@
+pub mod LawsFcs
+pub mod LawsFcsBound
+pub mod LawsFrame
+pub mod LawsReading
+pub mod LawsPieces
+pub mod LawsStates
+pub mod LawsStuffing
+pub mod FrameBounds
+pub mod ClosedForm
+pub mod ReaderRules
+pub mod AnyCuts
+pub mod RoundTrip
+pub mod Resynchronization

@@ -1,0 +1,60 @@
+-- PROMISE: the reader's rules are decided by their test and kept by every octet and every call. Assumes nothing.
+use mathlib.Core.Bool.{Bool, true, false, cond, true≢false, false≢true}
+use mathlib.Core.Path.{_≡_, refl, sym, ap, _∙_}
+use mathlib.Core.List.{List}
+use Prim.Native.Nat.{ℕ, _≤_}
+use native.Mathlib.Omega.{arith}
+use borrow.Author.Tests.{ltb-false, eqb-true, le-ltb, eq-eqb}
+use lib.Dec.{ltb, eqb}
+use lib.ListN.{length}
+use Rattle.octets.proofs.LawsTests.{by-test}
+use Rattle.hdlc.specs.declared.reader.Reader.{Reader}
+use Rattle.hdlc.specs.Reading.{decided, mostGathered, gathering, overlong, fresh, Held, held, after, run}
+use Rattle.hdlc.specs.Rules.{Rules, rules}
+use Rattle.hdlc.specs.Wire.{gathered, cutEscape, verdictAt, grown, call}
+use Rattle.hdlc.specs.Histories.{readerAfter, holding, openPiece, closed}
+use Rattle.hdlc.proofs.LawsStates.{after-undecided, after-decided}
+use Rattle.hdlc.proofs.ClosedForm.{open-holds, closed-form}
+
+-- ---- the test decides the rules
+
+pub rules-told : (r : Reader) → rules r ≡ true → Rules r
+unfolding rules
+rules-told r =
+    by-test (ltb mostGathered (r .count)) (λ t. simp t (λ e. absurd (false≢true e)))
+    (λ t. simp t
+    (by-test (r .discarding)
+    (λ d. simp d
+    (by-test (r .escaped) (λ x. simp x (λ e. absurd (false≢true e)))
+    (λ x. simp x (λ e. record { count = ltb-false _ _ t; discard = λ _. (eqb-true _ _ e, x) }))))
+    (λ d. simp d (λ e. record { count = ltb-false _ _ t; discard = λ yes-d. absurd (true≢false (sym yes-d ∙ d)) }))))
+
+pub rules-hold : (r : Reader) → Rules r → rules r ≡ true
+unfolding rules
+rules-hold r keeps =
+    simp (le-ltb mostGathered (r .count) (keeps .count))
+    (by-test (r .discarding) (λ d. simp (d, keeps .discard d .1, eq-eqb _ _ (keeps .discard d .0))) (λ d. simp d))
+
+pub fresh-rules : Rules fresh
+fresh-rules = record { count = omega arith; discard = λ d. absurd (false≢true d) }
+
+-- ---- they are kept
+
+reader-after : (p : List ℕ) → rules (readerAfter p) ≡ true
+unfolding readerAfter rules
+reader-after p = by-test (ltb mostGathered (length (gathered p))) (λ t. simp t) (λ t. simp t)
+
+pub after-rules : (h : Held) (b : ℕ) → mostGathered ≤ length (h .assembly) → rules (h .reader) ≡ true → rules (after h b .reader) ≡ true
+unfolding holding rules
+after-rules h b room e =
+    let p = openPiece (h .reader) (h .assembly) in
+    ap (λ z. rules (after z b .reader)) (open-holds (h .reader) (h .assembly) (rules-told (h .reader) e) room)
+    ∙ by-test (decided (verdictAt p b)) (λ t. ap (λ z. rules (z .reader)) (after-decided p (h .assembly) b t))
+    (λ t. ap (λ z. rules (z .reader)) (after-undecided p (h .assembly) b room t) ∙ reader-after (grown p b))
+
+pub run-rules : (r : Reader) (a xs : List ℕ) → Rules r → mostGathered ≤ length a → rules (run (held r a) xs .held .reader) ≡ true
+unfolding closed rules
+run-rules r a xs keeps room =
+    let c = call (openPiece r a) xs in
+    ap (λ o. rules (o .held .reader)) (closed-form r a xs keeps room)
+    ∙ by-test (decided (c .fate)) (λ t. simp t) (λ t. simp t (reader-after (c .piece)))

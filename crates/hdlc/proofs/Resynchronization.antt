@@ -1,0 +1,106 @@
+-- PROMISE: the next flag always ends the trouble. Whatever a reader holds that keeps its rules, and whatever stands in its assembly buffer
+-- of 1,302 octets or more, 7E and then the frame of a body give first the fate of what was open, if it has one, and then fate 1 where the
+-- body's top two header bits are 10 and fate 6 where not, with that body at the front of the buffer. Assumes nothing.
+use mathlib.Core.Bool.{true, false, cond}
+use mathlib.Core.Path.{_≡_, refl, sym, ap, ap₂, _∙_}
+use mathlib.Core.List.{List, [], _∷_, _++_, append-nil, append-assoc}
+use Prim.Native.Nat.{ℕ, zero, suc, _+_, _/_, _≤_}
+use native.Mathlib.Omega.{arith}
+use lib.Dec.{eqb}
+use lib.ListN.{length, getD, take, drop, drop-of-length-le}
+use lib.Seq.{take-length, drop-length, take-append-seam}
+use Rattle.octets.specs.Octets.{Octets}
+use Rattle.octets.specs.LittleEndian.{leOctets}
+use Rattle.octets.proofs.LawsTests.{by-test}
+use Rattle.hdlc.specs.declared.reader.Fate.{Fate}
+use Rattle.hdlc.specs.declared.reader.Fate.the-variants.{Unfinished, Checked, BadHeader}
+use Rattle.hdlc.specs.declared.reader.Reader.{Reader}
+use Rattle.hdlc.specs.Fcs.{fcs}
+use Rattle.hdlc.specs.Kinds.{kindOf}
+use Rattle.hdlc.specs.Frame.{Body, checked, frame}
+use Rattle.hdlc.specs.Reading.{decided, headed, mostGathered, fresh, Held, held, after, afterKind, flagFate, fateKind, fateAt, Outcome, outcome, later, run}
+use Rattle.hdlc.specs.Wire.{Verdict, told}
+use Rattle.hdlc.specs.Histories.{callsTell, callsLeave, offers, offered}
+use Rattle.hdlc.proofs.RoundTrip.{headed-decided, round-trip}
+
+-- what 7E and a body's frame give
+pub record Resynchronized (r : Reader) (a body : List ℕ) : Type 0 where
+  pub tells : callsTell (held r a) (offered (held r a) (0x7e ∷ frame body)) ≡ told (flagFate (held r a)) a ++ told (headed body) body
+  pub leaves : callsLeave (held r a) (offered (held r a) (0x7e ∷ frame body)) ≡ held fresh (checked body ++ drop (length body + 2) a)
+
+-- ---- calls by their outcomes
+
+-- what calls tell, and what they leave
+record Calls (h : Held) (xss : List (List ℕ)) (vs : List Verdict) (h′ : Held) : Type 0 where
+  tells : callsTell h xss ≡ vs
+  leaves : callsLeave h xss ≡ h′
+
+-- what a call with a fate left unread is offered again
+offers-on : {h h′ : Held} {o : Outcome} {vs : List Verdict} (n : ℕ) (xs : List ℕ) → run h xs ≡ o → decided (o .fate) ≡ true
+    → Calls (o .held) (offers n (o .held) (drop (o .read) xs)) vs h′ → Calls h (offers (suc n) h xs) (told (o .fate) (o .held .assembly) ++ vs) h′
+unfolding callsTell callsLeave offers
+offers-on {o = o} n xs is t rest =
+    let again : Outcome → List (List ℕ) = λ z. cond (decided (z .fate)) (offers n (z .held) (drop (z .read) xs)) [] in
+    let go-on : again o ≡ offers n (o .held) (drop (o .read) xs) = simp t in
+    record {
+      tells =
+          ap (λ z. told (z .fate) (z .held .assembly) ++ callsTell (z .held) (again z)) is
+          ∙ ap (λ l. told (o .fate) (o .held .assembly) ++ l) (ap (callsTell (o .held)) go-on ∙ rest .tells);
+      leaves = ap (λ z. callsLeave (z .held) (again z)) is ∙ ap (callsLeave (o .held)) go-on ∙ rest .leaves;
+    }
+
+-- no octets: nothing is told and nothing changes
+used-up : (n : ℕ) (h : Held) (xs : List ℕ) → xs ≡ [] → Calls h (offers (suc n) h xs) [] h
+unfolding callsTell callsLeave offers run told
+used-up n h xs none = rw none (record { tells = refl; leaves = refl })
+
+told-as : {h h′ : Held} {xss : List (List ℕ)} {vs ws : List Verdict} → vs ≡ ws → Calls h xss vs h′ → Calls h xss ws h′
+told-as e c = record { tells = c .tells ∙ e; leaves = c .leaves }
+
+module _ (r : Reader) (a body : List ℕ) (room : mostGathered ≤ length a) (size : Body body) (octets : Octets body) where
+  -- the frame as a fresh reader reads it
+  read-frame : Outcome
+  read-frame = outcome (headed body) (length (frame body)) fresh (checked body ++ drop (length body + 2) a)
+
+  told-frame : told (headed body) (checked body ++ drop (length body + 2) a) ≡ told (headed body) body
+  unfolding told headed checked
+  told-frame =
+      by-test (eqb (getD body 0 0 / 64) 2)
+      (λ t. simp t (ap (λ l. record { number = 1; body = l } ∷ []) (front ∙ sym (take-length body)))) (λ t. simp t)
+    where
+      front : take (length body) ((body ++ leOctets 2 (fcs body)) ++ drop (length body + 2) a) ≡ body
+      front = ap (take (length body)) (append-assoc body (leOctets 2 (fcs body)) (drop (length body + 2) a)) ∙ take-append-seam body _
+
+  -- what was open has a fate: the flag ends a call
+  decided-first : decided (flagFate (held r a)) ≡ true → run (held r a) (0x7e ∷ frame body) ≡ outcome (flagFate (held r a)) 1 fresh a
+  unfolding run fateAt fateKind after afterKind kindOf
+  decided-first t = simp t
+
+  -- it has none: the call goes on
+  undecided-first : decided (flagFate (held r a)) ≡ false → run (held r a) (0x7e ∷ frame body) ≡ later 1 read-frame
+  unfolding run fateAt fateKind after afterKind kindOf read-frame
+  undecided-first t = simp t (ap (later 1) (round-trip body size octets a room))
+
+  untold : decided (flagFate (held r a)) ≡ false → told (flagFate (held r a)) a ≡ []
+  unfolding told
+  untold t = simp t
+
+  -- a frame is read by one call, and the next has nothing to read
+  frame-calls : (n : ℕ) → Calls (held fresh a) (offers (suc (suc n)) (held fresh a) (frame body)) (told (headed body) body) (read-frame .held)
+  unfolding read-frame
+  frame-calls n =
+      told-as (append-nil _ ∙ told-frame)
+      (offers-on (suc n) (frame body) (round-trip body size octets a room) (headed-decided body) (used-up n _ _ (drop-length (frame body))))
+
+  calls : Calls (held r a) (offered (held r a) (0x7e ∷ frame body)) (told (flagFate (held r a)) a ++ told (headed body) body) (read-frame .held)
+  unfolding offered frame told read-frame
+  calls =
+      by-test (decided (flagFate (held r a))) (λ t. offers-on _ (0x7e ∷ frame body) (decided-first t) t (frame-calls _))
+      (λ t.
+      told-as (append-nil _ ∙ told-frame ∙ sym (ap (λ l. l ++ told (headed body) body) (untold t)))
+      (offers-on _ (0x7e ∷ frame body) (undecided-first t) (headed-decided body)
+      (used-up _ _ _ (drop-of-length-le (0x7e ∷ frame body) {i = 1 + length (frame body)} (omega arith)))))
+
+  pub resynchronizes : Resynchronized r a body
+  unfolding read-frame
+  resynchronizes = record { tells = calls .tells; leaves = calls .leaves }

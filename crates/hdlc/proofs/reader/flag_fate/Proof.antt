@@ -1,0 +1,37 @@
+-- Each way out has the tests that `flagFate` makes. Assumes nothing.
+use mathlib.Core.Path.{sym, _∙_}
+use native.Mathlib.Omega.{arith}
+use borrow.Author.Tests.{eq-eqb, ne-eqb}
+use borrow.Author.Needs.{needs}
+use lib.Seq.{length-take-le}
+use Rattle.hdlc.specs.Reading.{flagFate}
+use Rattle.hdlc.proofs.reader.flag_fate.Statement.{statement}
+use Rattle.hdlc.proofs.reader.flag_fate.Tie as tie
+
+returns : tie.Need-returns
+unfolding flagFate
+returns c = simp (c .if1 .taken)
+
+returns-2 : tie.Need-returns-2
+unfolding flagFate
+returns-2 c = simp (c .before .if1 .left, c .if2 .taken)
+
+returns-3 : tie.Need-returns-3
+unfolding flagFate
+returns-3 c = simp (c .before .before .if1 .left, c .before .if2 .left, eq-eqb _ _ (c .if3 .taken))
+
+slice-aggregate-judge : tie.Need-slice-aggregate-judge
+slice-aggregate-judge c = sym (length-take-le _ _ (omega arith))
+
+judge-requires : tie.Need-judge-requires
+judge-requires c κs = search needs
+
+returns-4 : tie.Need-returns-4
+unfolding flagFate
+returns-4 c =
+    let t = c .before .before in
+    c .judge .ensures ∙ rw (t .before .before .if1 .left, t .before .if2 .left, ne-eqb _ _ (t .if3 .left))
+
+pub flag-fate-spec : {M : Type 1} → statement M
+flag-fate-spec =
+    tie.close (tie.spec returns returns-2 returns-3 slice-aggregate-judge judge-requires returns-4)

@@ -1,0 +1,47 @@
+-- A written frame (01, Octets on the wire): "a flag, the escaped body and check, and a flag".
+use mathlib.Core.List.{List, [], _∷_, _++_}
+use Prim.Native.Nat.{ℕ, _≤_}
+use lib.Bits.{bitXor}
+use lib.ListN.{length, drop}
+use Rattle.octets.specs.LittleEndian.{leOctets}
+use Rattle.hdlc.specs.declared.kind.Kind.{Kind}
+use Rattle.hdlc.specs.declared.kind.Kind.the-variants.{Flag, Escape, Skipped, Plain}
+use Rattle.hdlc.specs.Kinds.{kindOf}
+use Rattle.hdlc.specs.Fcs.{fcs}
+
+-- "bodies have 2 to 1,300 octets"
+abbrev pub Body : List ℕ → Type 0
+Body body = (2 ≤ length body) × (length body ≤ 1300)
+
+-- "7D and then the octet xor 0x20 for each of 7E, 7D, 11, 13, F8"; any other octet as it is
+abbrev pub sentAs : Kind → ℕ → List ℕ
+sentAs Flag b = 0x7d ∷ bitXor b 0x20 ∷ []
+sentAs Escape b = 0x7d ∷ bitXor b 0x20 ∷ []
+sentAs Skipped b = 0x7d ∷ bitXor b 0x20 ∷ []
+sentAs Plain b = b ∷ []
+
+unfoldable pub sent : ℕ → List ℕ
+sent b = sentAs (kindOf b) b
+
+unfoldable pub stuffed : List ℕ → List ℕ
+stuffed [] = []
+stuffed (b ∷ bs) = sent b ++ stuffed bs
+
+-- a body and its check, "low octet first"
+unfoldable pub checked : List ℕ → List ℕ
+checked body = body ++ leOctets 2 (fcs body)
+
+unfoldable pub frame : List ℕ → List ℕ
+frame body = 0x7e ∷ stuffed (checked body) ++ (0x7e ∷ [])
+
+-- what the writer gives: how many octets it wrote, and the whole output
+pub record Written : Type 0 where
+  pub count : ℕ
+  pub output : List ℕ
+
+abbrev pub written : ℕ → List ℕ → Written
+written n out = record { count = n; output = out }
+
+-- the frame at the front, and behind it what the output held
+unfoldable pub writing : List ℕ → List ℕ → Written
+writing body out = written (length (frame body)) (frame body ++ drop (length (frame body)) out)

@@ -1,0 +1,7 @@
+pub mod Fcs
+pub mod Kinds
+pub mod Frame
+pub mod Reading
+pub mod Rules
+pub mod Wire
+pub mod Histories

@@ -1,0 +1,143 @@
+-- The reader, octet by octet (01, Octets on the wire).
+use mathlib.Core.Bool.{Bool, true, false, cond}
+use mathlib.Core.List.{List, [], _∷_}
+use Prim.Native.Nat.{ℕ, _+_, _-_, _/_}
+use lib.Dec.{ltb, eqb}
+use lib.ListN.{length, take, getD, set}
+use lib.Bits.{bitXor}
+use Rattle.octets.specs.LittleEndian.{leAt}
+use Rattle.hdlc.specs.declared.kind.Kind.{Kind}
+use Rattle.hdlc.specs.declared.kind.Kind.the-variants.{Flag, Escape, Skipped, Plain}
+use Rattle.hdlc.specs.declared.reader.Fate.{Fate}
+use Rattle.hdlc.specs.declared.reader.Fate.the-variants.{Unfinished, Checked, Short, WrongCheck, TooLong, CutEscape, BadHeader}
+use Rattle.hdlc.specs.declared.reader.Reader.{Reader}
+use Rattle.hdlc.specs.Kinds.{kindOf}
+use Rattle.hdlc.specs.Fcs.{fcs}
+
+-- ---- fates
+
+-- 01's number of a fate
+abbrev pub number : Fate → ℕ
+number Unfinished = 0
+number (Checked n) = 1
+number Short = 2
+number WrongCheck = 3
+number TooLong = 4
+number CutEscape = 5
+number BadHeader = 6
+
+-- whether a frame has its fate
+abbrev pub decided : Fate → Bool
+decided Unfinished = false
+decided (Checked n) = true
+decided Short = true
+decided WrongCheck = true
+decided TooLong = true
+decided CutEscape = true
+decided BadHeader = true
+
+-- of gathered octets, the body and the check that was sent after it
+unfoldable pub bodyOf : List ℕ → List ℕ
+bodyOf g = take (length g - 2) g
+
+unfoldable pub checkOf : List ℕ → ℕ
+checkOf g = leAt g (length g - 2) 2
+
+-- fates 2, 3 and 6 in this order, else 1
+unfoldable pub judged : List ℕ → Fate
+judged g =
+    cond (ltb (length g) 4) Short
+    (cond (eqb (checkOf g) (fcs (bodyOf g))) (cond (eqb (getD g 0 0 / 64) 2) (Checked (length g - 2)) BadHeader) WrongCheck)
+
+-- the fate of a body whose check was right: 6, else 1
+unfoldable pub headed : List ℕ → Fate
+headed body = cond (eqb (getD body 0 0 / 64) 2) (Checked (length body)) BadHeader
+
+-- ---- states
+
+-- "at most 1,302 are gathered with the check"
+abbrev pub mostGathered : ℕ
+mostGathered = 1302
+
+-- a reader that has gathered n octets, with an escape pending or not
+abbrev pub gathering : ℕ → Bool → Reader
+gathering n e = record { count = n; escaped = e; discarding = false }
+
+-- a reader that throws away "all until the next flag"
+abbrev pub overlong : Reader
+overlong = record { count = mostGathered; escaped = false; discarding = true }
+
+-- "a fresh reader stands as if a flag had just passed"
+abbrev pub fresh : Reader
+fresh = gathering 0 false
+
+-- a reader with the assembly buffer that it is lent
+pub record Held : Type 0 where
+  pub reader : Reader
+  pub assembly : List ℕ
+
+abbrev pub held : Reader → List ℕ → Held
+held r a = record { reader = r; assembly = a }
+
+-- ---- one octet
+
+-- an octet is gathered; "the 1,303rd makes the frame too long, and all until the next flag is thrown away"
+unfoldable pub gather : Held → ℕ → Held
+gather h b =
+    cond (ltb (h .reader .count) mostGathered)
+    (held (gathering (h .reader .count + 1) false) (set (h .assembly) (h .reader .count) b)) (held overlong (h .assembly))
+
+-- an octet that is neither a flag nor skipped, and whether it is the escape; "after an escape any other octet is taken xor 0x20"
+unfoldable pub content : Held → Bool → ℕ → Held
+content h isEscape b =
+    cond (h .reader .discarding) h
+    (cond (h .reader .escaped) (gather h (bitXor b 0x20))
+    (cond isEscape (held (gathering (h .reader .count) true) (h .assembly)) (gather h b)))
+
+-- "after any flag the reader is fresh again"; 11, 13 and F8 are skipped "wherever they stand, also after an escape"
+unfoldable pub afterKind : Held → Kind → ℕ → Held
+afterKind h Flag b = held fresh (h .assembly)
+afterKind h Skipped b = h
+afterKind h Escape b = content h true b
+afterKind h Plain b = content h false b
+
+unfoldable pub after : Held → ℕ → Held
+after h b = afterKind h (kindOf b) b
+
+-- at a flag: fates 4 and 5, none where nothing is gathered, then 2, 3, 6 and 1
+unfoldable pub flagFate : Held → Fate
+flagFate h =
+    cond (h .reader .discarding) TooLong
+    (cond (h .reader .escaped) CutEscape
+    (cond (eqb (h .reader .count) 0) Unfinished (judged (take (h .reader .count) (h .assembly)))))
+
+-- only a flag decides a fate
+unfoldable pub fateKind : Held → Kind → Fate
+fateKind h Flag = flagFate h
+fateKind h Escape = Unfinished
+fateKind h Skipped = Unfinished
+fateKind h Plain = Unfinished
+
+unfoldable pub fateAt : Held → ℕ → Fate
+fateAt h b = fateKind h (kindOf b)
+
+-- ---- a call
+
+-- its fate, how many octets it read, and what it leaves
+pub record Outcome : Type 0 where
+  pub fate : Fate
+  pub read : ℕ
+  pub held : Held
+
+abbrev pub outcome : Fate → ℕ → Reader → List ℕ → Outcome
+outcome f n r a = record { fate = f; read = n; held = held r a }
+
+-- the same n octets later
+abbrev pub later : ℕ → Outcome → Outcome
+later n o = record { fate = o .fate; read = n + o .read; held = o .held }
+
+-- "one call reads lent input until the first frame has its fate, or the input ends"; the flag is read too
+unfoldable pub run : Held → List ℕ → Outcome
+run h [] = record { fate = Unfinished; read = 0; held = h }
+run h (b ∷ bs) =
+    cond (decided (fateAt h b)) (record { fate = fateAt h b; read = 1; held = after h b }) (later 1 (run (after h b) bs))

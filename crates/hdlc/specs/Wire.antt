@@ -1,0 +1,139 @@
+-- What was received, told by its octets alone (01, Whole histories).
+use mathlib.Core.Bool.{Bool, true, false, cond}
+use mathlib.Core.List.{List, [], _∷_, _++_, foldl}
+use Prim.Native.Nat.{ℕ, _+_}
+use lib.Dec.{ltb, eqb}
+use lib.ListN.{length, take, drop}
+use lib.Bits.{bitXor}
+use Rattle.octets.specs.Runs.{each, emitted}
+use Rattle.hdlc.specs.declared.kind.Kind.{Kind}
+use Rattle.hdlc.specs.declared.kind.Kind.the-variants.{Flag, Escape, Skipped, Plain}
+use Rattle.hdlc.specs.declared.reader.Fate.{Fate}
+use Rattle.hdlc.specs.declared.reader.Fate.the-variants.{Unfinished, Checked, Short, WrongCheck, TooLong, CutEscape, BadHeader}
+use Rattle.hdlc.specs.Kinds.{kindOf}
+use Rattle.hdlc.specs.Reading.{mostGathered, number, decided, judged}
+
+-- ---- one piece: the octets between two flags
+
+-- "take out 11, 13 and F8"
+abbrev pub keptAs : Kind → ℕ → List ℕ
+keptAs Flag b = b ∷ []
+keptAs Escape b = b ∷ []
+keptAs Skipped b = []
+keptAs Plain b = b ∷ []
+
+unfoldable pub kept : List ℕ → List ℕ
+kept p = each (λ b. keptAs (kindOf b) b) p
+
+-- "then undo the escapes": what an octet stands for where an escape is pending and where none is, and whether one is pending after it
+abbrev pub isEscape : Kind → Bool
+isEscape Flag = false
+isEscape Escape = true
+isEscape Skipped = false
+isEscape Plain = false
+
+unfoldable pub meant : Bool → ℕ → List ℕ
+meant true b = bitXor b 0x20 ∷ []
+meant false b = cond (isEscape (kindOf b)) [] (b ∷ [])
+
+unfoldable pub pends : Bool → ℕ → Bool
+pends true b = false
+pends false b = isEscape (kindOf b)
+
+-- the octets that a piece stands for, and whether it ends in an escape
+unfoldable pub gathered : List ℕ → List ℕ
+gathered p = emitted meant pends false (kept p)
+
+unfoldable pub cutEscape : List ℕ → Bool
+cutEscape p = foldl pends false (kept p)
+
+-- "fates are tried in the order 4, 5, 2, 3, 6"; an empty piece has none
+unfoldable pub verdict : List ℕ → Fate
+verdict p =
+    cond (ltb mostGathered (length (gathered p))) TooLong
+    (cond (cutEscape p) CutEscape (cond (eqb (length (gathered p)) 0) Unfinished (judged (gathered p))))
+
+-- ---- the wire, "cut at the flags; what follows the last is unfinished"
+
+-- the piece that an octet ends, if any, and the piece that is open after it
+abbrev pub endsAs : Kind → List ℕ → List (List ℕ)
+endsAs Flag p = p ∷ []
+endsAs Escape p = []
+endsAs Skipped p = []
+endsAs Plain p = []
+
+abbrev pub growsAs : Kind → List ℕ → ℕ → List ℕ
+growsAs Flag p b = []
+growsAs Escape p b = p ++ (b ∷ [])
+growsAs Skipped p b = p ++ (b ∷ [])
+growsAs Plain p b = p ++ (b ∷ [])
+
+unfoldable pub ended : List ℕ → ℕ → List (List ℕ)
+ended p b = endsAs (kindOf b) p
+
+unfoldable pub grown : List ℕ → ℕ → List ℕ
+grown p b = growsAs (kindOf b) p b
+
+-- of octets that come after an open piece p: the pieces that they finish, and the one that they leave unfinished
+unfoldable pub finished : List ℕ → List ℕ → List (List ℕ)
+finished p xs = emitted ended grown p xs
+
+unfoldable pub unfinished : List ℕ → List ℕ → List ℕ
+unfinished p xs = foldl grown p xs
+
+-- ---- the verdicts of pieces
+
+-- 01's number of a fate and, of a checked frame, its body; the gathered octets stand first in the list
+pub record Verdict : Type 0 where
+  pub number : ℕ
+  pub body : List ℕ
+
+abbrev pub bodyIn : Fate → List ℕ → List ℕ
+bodyIn Unfinished xs = []
+bodyIn (Checked n) xs = take n xs
+bodyIn Short xs = []
+bodyIn WrongCheck xs = []
+bodyIn TooLong xs = []
+bodyIn CutEscape xs = []
+bodyIn BadHeader xs = []
+
+-- none where there is no fate
+unfoldable pub told : Fate → List ℕ → List Verdict
+told f xs = cond (decided f) (record { number = number f; body = bodyIn f xs } ∷ []) []
+
+unfoldable pub verdicts : List (List ℕ) → List Verdict
+verdicts ps = each (λ p. told (verdict p) (gathered p)) ps
+
+-- ---- a call reads "its input to the first flag with a fate, that flag included, else all"
+
+-- its fate, how many octets it read, and the piece that it ended in: the one with the fate, else the unfinished one
+pub record Call : Type 0 where
+  pub fate : Fate
+  pub read : ℕ
+  pub piece : List ℕ
+
+-- the fate that an octet gives to the piece before it
+abbrev pub verdictAs : Kind → List ℕ → Fate
+verdictAs Flag p = verdict p
+verdictAs Escape p = Unfinished
+verdictAs Skipped p = Unfinished
+verdictAs Plain p = Unfinished
+
+unfoldable pub verdictAt : List ℕ → ℕ → Fate
+verdictAt p b = verdictAs (kindOf b) p
+
+-- the same n octets later
+abbrev pub laterCall : ℕ → Call → Call
+laterCall n c = record { fate = c .fate; read = n + c .read; piece = c .piece }
+
+unfoldable pub call : List ℕ → List ℕ → Call
+call p [] = record { fate = Unfinished; read = 0; piece = p }
+call p (b ∷ bs) = cond (decided (verdictAt p b)) (record { fate = verdictAt p b; read = 1; piece = p }) (laterCall 1 (call (grown p b) bs))
+
+-- the octets that it read
+unfoldable pub callReads : List ℕ → List ℕ → List ℕ
+callReads p xs = take (call p xs .read) xs
+
+-- "lay end to end what the calls read"; each goes on with the piece that the last one left
+unfoldable pub wire : List ℕ → List (List ℕ) → List ℕ
+wire p xss = emitted callReads (λ q xs. unfinished q (callReads q xs)) p xss

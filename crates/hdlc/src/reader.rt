@@ -1,0 +1,236 @@
+// The frame reader. Its state goes in and out by value; the octets that it gathers stand in a lent assembly buffer.
+use crate::fcs::fcs16;
+use crate::kind::Kind;
+use crate::kind::kind_of;
+use octets::read_le;
+ghost use mathlib.Core.Bool.{Bool, true};
+ghost use mathlib.Core.Path.{_≡_};
+ghost use Prim.Native.Nat.{_≤_};
+ghost use lib.ListN.{length};
+ghost use Rattle.hdlc.specs.Reading.{mostGathered, fresh, held, outcome, judged, flagFate, gather, content, after, fateAt, decided, run};
+ghost use Rattle.hdlc.specs.Rules.{rules};
+
+// What became of a frame: fates 0 to 6 of 01, in the order of their numbers. A checked frame's body has so many octets.
+pub enum Fate {
+    Unfinished,
+    Checked(usize),
+    Short,
+    WrongCheck,
+    TooLong,
+    CutEscape,
+    BadHeader,
+}
+
+pub struct Reader {
+    // How many octets are gathered, from the front of the assembly buffer.
+    pub count: usize,
+    // An escape came, and the octet that it is for has not.
+    pub escaped: bool,
+    // The frame is too long; all is thrown away until the next flag.
+    pub discarding: bool,
+}
+
+// What one call gives.
+pub struct Reading {
+    pub fate: Fate,
+    // How many octets of the input were read, the deciding flag included.
+    pub read: usize,
+    pub reader: Reader,
+}
+
+struct Step {
+    fate: Fate,
+    reader: Reader,
+}
+
+impl Reader {
+    // The most octets of a body.
+    pub const MOST_BODY: usize = 1300;
+    // The most octets that are gathered: a body and its check.
+    pub const MOST_GATHERED: usize = Reader::MOST_BODY + 2;
+
+    // A reader that stands as if a flag had just passed.
+    pub fn fresh() -> Reader
+        ensures { λ r. ⌜ r ≡ fresh ⌝ }
+    {
+        Reader {
+            count: 0,
+            escaped: false,
+            discarding: false,
+        }
+    }
+
+    // Whether a reader's state is one that reading can leave.
+    pub fn keeps_rules(self) -> bool
+        ensures { λ r. ⌜ r ≡ rules self ⌝ }
+    {
+        if Reader::MOST_GATHERED < self.count {
+            return false;
+        }
+        if self.discarding {
+            if self.escaped {
+                return false;
+            }
+            return self.count == Reader::MOST_GATHERED;
+        }
+        true
+    }
+}
+
+// The fate of gathered octets that are not too many and not cut in an escape.
+fn judge(gathered: &[u8]) -> Fate
+    ensures { λ r. ⌜ r ≡ judged (now (gathered .entry)) ⌝ }
+{
+    let count = gathered.len();
+    if count < 4 {
+        return Fate::Short;
+    }
+    let body = count - 2;
+    if read_le(gathered, body, 2) != fcs16(&gathered[..body]) as u32 {
+        return Fate::WrongCheck;
+    }
+    if gathered[0] / 64 != 2 {
+        return Fate::BadHeader;
+    }
+    Fate::Checked(body)
+}
+
+// The fate that a flag gives, `Unfinished` where no frame ends.
+fn flag_fate(reader: Reader, assembly: &[u8]) -> Fate
+    requires { ⌜ reader .count ≤ length (now assembly) ⌝ }
+    ensures { λ r. ⌜ r ≡ flagFate (held reader (now (assembly .entry))) ⌝ }
+{
+    if reader.discarding {
+        return Fate::TooLong;
+    }
+    if reader.escaped {
+        return Fate::CutEscape;
+    }
+    let count = reader.count;
+    if count == 0 {
+        return Fate::Unfinished;
+    }
+    judge(&assembly[..count])
+}
+
+// One octet more is gathered; one too many starts the discard.
+fn gather_octet(reader: Reader, octet: u8, assembly: &mut [u8]) -> Reader
+    requires { ⌜ mostGathered ≤ length (now assembly) ⌝ }
+    ensures { λ r. ⌜ held r (now (assembly .exit)) ≡ gather (held reader (now (assembly .entry))) octet ⌝ }
+{
+    let count = reader.count;
+    if count < Reader::MOST_GATHERED {
+        assembly[count] = octet;
+        return Reader {
+            count: count + 1,
+            escaped: false,
+            discarding: false,
+        };
+    }
+    Reader {
+        count: Reader::MOST_GATHERED,
+        escaped: false,
+        discarding: true,
+    }
+}
+
+// An octet of a frame's content: neither a flag nor skipped.
+fn take_content(reader: Reader, escape: bool, octet: u8, assembly: &mut [u8]) -> Reader
+    requires { ⌜ mostGathered ≤ length (now assembly) ⌝ }
+    ensures { λ r. ⌜ held r (now (assembly .exit)) ≡ content (held reader (now (assembly .entry))) escape octet ⌝ }
+{
+    if reader.discarding {
+        return reader;
+    }
+    if reader.escaped {
+        return gather_octet(reader, octet ^ 0x20, assembly);
+    }
+    if escape {
+        return Reader {
+            count: reader.count,
+            escaped: true,
+            discarding: false,
+        };
+    }
+    gather_octet(reader, octet, assembly)
+}
+
+// One octet: the fate that it decides, and the reader after it.
+fn read_octet(reader: Reader, octet: u8, assembly: &mut [u8]) -> Step
+    requires { ⌜ (reader .count ≤ mostGathered) × (mostGathered ≤ length (now assembly)) ⌝ }
+    ensures { λ s.
+        ⌜ (s .fate ≡ fateAt (held reader (now (assembly .entry))) octet)
+        × (held (s .reader) (now (assembly .exit)) ≡ after (held reader (now (assembly .entry))) octet) ⌝ }
+{
+    let kind = kind_of(octet);
+    match kind {
+        Kind::Flag => {
+            let fate = flag_fate(reader, &assembly[..]);
+            return Step {
+                fate,
+                reader: Reader::fresh(),
+            };
+        }
+        Kind::Skipped => {
+            return Step {
+                fate: Fate::Unfinished,
+                reader,
+            };
+        }
+        Kind::Escape => {
+            let next = take_content(reader, true, octet, assembly);
+            return Step {
+                fate: Fate::Unfinished,
+                reader: next,
+            };
+        }
+        Kind::Plain => {
+            let next = take_content(reader, false, octet, assembly);
+            return Step {
+                fate: Fate::Unfinished,
+                reader: next,
+            };
+        }
+    }
+}
+
+fn decides(fate: Fate) -> bool
+    ensures { λ r. ⌜ r ≡ decided fate ⌝ }
+{
+    if let Fate::Unfinished = fate {
+        false
+    } else {
+        true
+    }
+}
+
+// Reads the input until the first frame has its fate, or the input ends.
+pub fn read_frame(reader: Reader, input: &[u8], assembly: &mut [u8]) -> Reading
+    requires { ⌜ (rules reader ≡ true) × (mostGathered ≤ length (now assembly)) ⌝ }
+    ensures { λ r.
+        ⌜ outcome (r .fate) (r .read) (r .reader) (now (assembly .exit))
+        ≡ run (held reader (now (assembly .entry))) (now (input .entry)) ⌝ }
+{
+    let mut reader = reader;
+    let mut at: usize = 0;
+    loop {
+        if input.len() <= at {
+            break Reading {
+                fate: Fate::Unfinished,
+                read: at,
+                reader,
+            };
+        }
+        let s = read_octet(reader, input[at], assembly);
+        at += 1;
+        reader = s.reader;
+        let fate = s.fate;
+        if decides(fate) {
+            break Reading {
+                fate,
+                read: at,
+                reader,
+            };
+        }
+    }
+}

@@ -1,0 +1,3 @@
+pub mod LawsPacked
+pub mod ReadsBack
+pub mod OneSpelling

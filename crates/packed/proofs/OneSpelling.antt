@@ -1,0 +1,78 @@
+-- PROMISE: each number has one spelling. Whatever is read is what is written for the number read; the answer hangs on the at most three
+-- octets from the place; and a place at or past the end is unreadable. Assumes nothing.
+use mathlib.Core.Path.{_≡_, sym, ap, _∙_}
+use mathlib.Core.List.{List, [], _∷_, _++_}
+use Prim.Native.Nat.{ℕ, zero, suc, _+_, _*_, _-_, _/_, _%_, _^_, _<_, _≤_}
+use native.Mathlib.Omega.{arith}
+use native.Mathlib.Nat.{pow-succ', one-le-pow}
+use borrow.Author.Tests.{ltb-true, ltb-false, eqb-false}
+use lib.Dec.{eqb, ltb}
+use lib.ListN.{length, take, drop, length-append, length-drop}
+use lib.Seq.{take-append-seam}
+use Rattle.octets.specs.Octets.{Octets}
+use Rattle.octets.proofs.LawsLists.{octets-drop}
+use Rattle.octets.proofs.LawsTests.{by-test}
+use Rattle.packed.specs.Packed.{packed, packedIn, joined, numberIn, packedAt}
+use Rattle.packed.specs.declared.Packed.{Packed}
+use Rattle.packed.specs.declared.Packed.the-variants.{Number, Unreadable}
+use Rattle.packed.proofs.LawsPacked.{packed-last, packed-more, packed-room, number-none, number-take}
+
+-- what a reading of n up to `next` tells of the octets from `at` on
+pub record Spelled (xs : List ℕ) (at n next : ℕ) : Type 0 where
+  pub most : n ≤ 2097151
+  pub end : next ≡ at + length (packed n)
+  pub inside : next ≤ length xs
+  pub octets : take (length (packed n)) (drop at xs) ≡ packed n
+
+never : {P : Type 0} {n next : ℕ} → Unreadable ≡ Number n next → P
+never e = let z : _≡_ {A = ℕ} 0 1 = cc in absurd (omega arith)
+
+-- a number that is joined is joined from one that is not 0
+from-joined : {P : Type 0} (low scale n next : ℕ) (r : Packed) → joined low scale r ≡ Number n next
+    → ((m : ℕ) → r ≡ Number m next → (m ≡ 0 → ⊥) → low + scale * m ≡ n → P) → P
+unfolding joined
+from-joined low scale n next Unreadable e go = never e
+from-joined low scale n next (Number m to) e go =
+    by-test (eqb m 0) (λ t. never (rw t at e)) (λ t. let e' = rw t at e in go m (cc) (eqb-false m 0 t) (cc))
+
+-- with room for one octet more than is read, so that the cases are two
+spelled : (k at n next : ℕ) (xs : List ℕ) → Octets xs → numberIn k at xs ≡ Number n next
+    → (n < 128 ^ k) × (at < next) × (next ≡ at + length (packedIn k n)) × (packedIn k n ++ drop (length (packedIn k n)) xs ≡ xs)
+unfolding numberIn
+spelled zero at n next xs o e = never e
+spelled (suc k) at n next [] o e = never e
+spelled (suc k) at n next (x ∷ xs) o e =
+    by-test (ltb x 128)
+    (λ t. let e' = rw t at e in
+    let same : n ≡ x = cc in
+    let after : next ≡ at + 1 = cc in
+    let last : n < 128 = omega (arith, ltb-true x 128 t) in
+    let power : 1 ≤ 128 ^ k = one-le-pow k 128 (omega arith) in
+    rw (packed-last (suc k) n last) (rw (pow-succ' 128 k) (omega arith), omega arith, omega arith, ap (λ y. y ∷ xs) same))
+    (λ t. from-joined (x - 128) 128 n next (numberIn k (at + 1) xs) (rw t at e)
+    (λ m r some sum. let rest = spelled k (at + 1) m next xs (λ j. o (suc j)) r in
+    let high : 128 ≤ x = ltb-false x 128 t in
+    let octet : x < 256 = o zero in
+    let low : n % 128 + 128 ≡ x = omega arith in
+    let more : n / 128 ≡ m = omega arith in
+    rw (packed-more k n (omega arith), low, more) (rw (pow-succ' 128 k) (omega arith), omega arith, omega arith, ap (λ ys. x ∷ ys) (rest .3))))
+
+pub one-spelling : (xs : List ℕ) (at n next : ℕ) → Octets xs → packedAt xs at ≡ Number n next → Spelled xs at n next
+unfolding packedAt packed
+one-spelling xs at n next o e =
+    let s = spelled 3 at n next (drop at xs) (octets-drop at xs o) e in
+    let s' = rw (← (packed-room 2 n (s .0))) at s in
+    record {
+      most = omega arith;
+      end = s' .2;
+      inside = omega (arith, simp (length-append, length-drop) at (ap length (s' .3)));
+      octets = rw (← (s' .3)) (take-append-seam (packed n) _);
+    }
+
+pub same-octets : (xs ys : List ℕ) (at : ℕ) → take 3 (drop at xs) ≡ take 3 (drop at ys) → packedAt xs at ≡ packedAt ys at
+unfolding packedAt
+same-octets xs ys at e = sym (number-take 3 at (drop at xs)) ∙ ap (numberIn 3 at) e ∙ number-take 3 at (drop at ys)
+
+pub past-end : (xs : List ℕ) (at : ℕ) → length xs ≤ at → packedAt xs at ≡ Unreadable
+unfolding packedAt
+past-end xs at h = number-none xs at 3 h

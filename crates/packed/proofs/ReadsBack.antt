@@ -1,0 +1,42 @@
+-- PROMISE: a packed integer takes 1 to 3 octets, and one that was written is read back, whatever stands around it. Assumes nothing.
+use mathlib.Core.Path.{_≡_, ap₂}
+use mathlib.Core.Bool.{false}
+use mathlib.Core.List.{List, _++_}
+use Prim.Native.Nat.{ℕ, zero, suc, _+_, _*_, _/_, _%_, _^_, _<_, _≤_}
+use native.Mathlib.Omega.{arith}
+use native.Mathlib.Nat.{pow-succ'}
+use borrow.Author.Tests.{lt-ltb, le-ltb, ltb-true, ltb-false, ne-eqb}
+use lib.Dec.{eqb, ltb}
+use lib.ListN.{length}
+use lib.Seq.{drop-append-seam}
+use Rattle.octets.proofs.LawsTests.{by-test}
+use Rattle.packed.specs.Packed.{packed, packedIn, joined, numberIn, packedAt}
+use Rattle.packed.specs.declared.Packed.the-variants.{Number}
+use Rattle.packed.proofs.LawsPacked.{packed-last, packed-more}
+
+size-in : (k n : ℕ) → (1 ≤ length (packedIn k n)) × (length (packedIn k n) ≤ suc k)
+unfolding packedIn
+size-in zero n = omega arith
+size-in (suc k) n =
+    by-test (ltb n 128) (λ e. simp e (omega arith)) (λ e. let rest = size-in k (n / 128) in simp e (omega arith))
+
+pub packed-size : (n : ℕ) → (1 ≤ length (packed n)) × (length (packed n) ≤ 3)
+unfolding packed
+packed-size n = size-in 2 n
+
+back : (k at n : ℕ) (after : List ℕ) → n < 128 ^ suc k → numberIn (suc k) at (packedIn k n ++ after) ≡ Number n (at + length (packedIn k n))
+unfolding numberIn joined
+back zero at n after h = rw (packed-last 0 n h, lt-ltb n 128 h)
+back (suc k) at n after h =
+    by-test (ltb n 128)
+    (λ e. rw (packed-last (suc k) n (ltb-true n 128 e), e))
+    (λ e. let less : n < 128 * 128 ^ suc k = rw (pow-succ' 128 (suc k)) at h in
+    let high : 128 ≤ n = ltb-false n 128 e in
+    let pos : eqb (n / 128) 0 ≡ false = ne-eqb (n / 128) 0 (λ z. omega arith) in
+    rw (packed-more k n high, le-ltb (n % 128 + 128) 128 (omega arith), back k (at + 1) (n / 128) after (omega arith), pos)
+    (ap₂ Number (omega arith) (omega arith)))
+
+pub reads-back : (before after : List ℕ) (n : ℕ) → n ≤ 2097151
+    → packedAt (before ++ (packed n ++ after)) (length before) ≡ Number n (length before + length (packed n))
+unfolding packedAt packed
+reads-back before after n most = rw drop-append-seam (back 2 (length before) n after (omega arith))

@@ -1,0 +1,66 @@
+// Packed integers: 000, appendix B.1, and what is no packed integer.
+use crate::show;
+use packed::Packed;
+use packed::read_packed;
+use packed::write_packed;
+
+pub fn run() {
+    written(0);
+    written(1);
+    written(127);
+    written(128);
+    written(129);
+    written(1337);
+    written(16383);
+    written(16384);
+    written(16385);
+    written(2097151);
+    // Nothing there, and octets that ran out.
+    read(b"");
+    read(b"\x80");
+    read(b"\xff\xff");
+    // A third octet with its top bit set: 2,097,152 has no spelling.
+    read(b"\x80\x80\x80\x01");
+    // A shorter spelling exists: of 1, of 0, of 127 and of 128.
+    read(b"\x81\x00");
+    read(b"\x80\x00");
+    read(b"\xff\x00");
+    read(b"\x80\x81\x00");
+    // What follows a number is not read.
+    read(b"\x81\x01\x81\x00");
+}
+
+// A number of at most 2,097,151 written, and what was written read back.
+fn written(n: u32) {
+    if 2097151 < n {
+        return;
+    }
+    let mut out = [0u8; 3];
+    let end = write_packed(&mut out, 0, n);
+    show::text(b"packed ");
+    show::number(n as usize);
+    show::text(b" =");
+    show::octets(&out[..end]);
+    show::text(b",");
+    found(read_packed(&out[..end], 0));
+}
+
+fn read(octets: &[u8]) {
+    show::text(b"read");
+    show::octets(octets);
+    show::text(b":");
+    found(read_packed(octets, 0));
+}
+
+fn found(p: Packed) {
+    match p {
+        Packed::Number(n, next) => {
+            show::text(b" ");
+            show::number(n as usize);
+            show::text(b" up to ");
+            show::number(next);
+            show::text(b"\n");
+        }
+        Packed::Unreadable => show::text(b" unreadable\n"),
+    }
+}

@@ -1,0 +1,15 @@
+// Published vectors, run through the code. Each line says what went in and what came out; the file stdout holds what must come out, from
+// the sources that the comments name and from 01's tables, never from this program.
+mod checks;
+mod frames;
+mod integers;
+mod show;
+mod wires;
+
+fn main() {
+    checks::run();
+    integers::run();
+    frames::run();
+    wires::run();
+    wires::run_long();
+}

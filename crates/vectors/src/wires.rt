@@ -1,0 +1,149 @@
+// Octets of the wire, read in one or several calls; what a call leaves unread is offered again. Fates are 01's (Octets on the wire).
+use crate::show;
+use hdlc::Fate;
+use hdlc::Reader;
+use hdlc::Reading;
+use hdlc::read_frame;
+use hdlc::write_frame;
+
+pub fn run() {
+    // A frame, one without its first flag, and two that share a flag.
+    one(b"\x7e\x81\x00\x53\x9a\x7e");
+    one(b"\x81\x00\x53\x9a\x7e");
+    one(b"\x7e\x81\x00\x53\x9a\x7e\x81\x00\x53\x9a\x7e");
+    // 01, Bodies and their replies: fate 6, fate 5, and none.
+    one(b"\x7e\x41\x00\xf9\x50\x7e");
+    one(b"\x7e\x7d\x7e");
+    one(b"\x7e\x7e\x7e");
+    // Too short: one octet, and three.
+    one(b"\x7e\x81\x7e");
+    one(b"\x7e\x81\x00\x53\x7e");
+    // A wrong check, and the right one with its high octet first.
+    one(b"\x7e\x81\x00\x53\x9b\x7e");
+    one(b"\x7e\x81\x00\x9a\x53\x7e");
+    // Bare 11, 13 and F8 are skipped, also between an escape and its octet.
+    one(b"\x11\x7e\x13\x81\xf8\x00\x53\x11\x9a\x13\x7e");
+    one(b"\x7e\x81\x7d\x11\x13\xf8\x5e\xaa\x00\x7e");
+    // An escaped escape octet is an octet like others: 7D 7D stands for 5D.
+    one(b"\x7e\x81\x7d\x7d\x33\x7d\x33\x7e");
+    // An escape does not survive a flag.
+    one(b"\x7e\x7d\x7e\x81\x00\x53\x9a\x7e");
+    // Noise, and two frames joined by a lost flag; the next frame is read.
+    one(b"\x01\x02\x7d\x03\x04\x05\x7e\x81\x00\x53\x9a\x7e");
+    one(b"\x7e\x81\x00\x53\x9a\x81\x00\x53\x9a\x7e\x81\x00\x53\x9a\x7e");
+    // Cut in an escape, and before the last flag.
+    two(b"\x7e\x81\x7d", b"\x5e\xaa\x00\x7e");
+    two(b"\x7e\x81\x00\x53\x9a", b"\x7e");
+}
+
+// 1,302 octets are gathered, and no more (01, Octets on the wire).
+pub fn run_long() {
+    let mut assembly = [0u8; 1302];
+    let octets = [0x81u8; 1303];
+    let mut frame = [0u8; 2606];
+    let count = write_frame(&octets[..1300], &mut frame);
+    show::text(b"1300 octets framed:");
+    feed(Reader::fresh(), &frame[..count], &mut assembly);
+    show::text(b"\n1302 octets and a flag:");
+    let full = feed(Reader::fresh(), &octets[..1302], &mut assembly);
+    feed(full, b"\x7e", &mut assembly);
+    show::text(b"\n1302 octets, an escape and a flag:");
+    feed(full, b"\x7d\x7e", &mut assembly);
+    show::text(b"\n1303 octets and a flag:");
+    let over = feed(Reader::fresh(), &octets[..1303], &mut assembly);
+    feed(over, b"\x7e", &mut assembly);
+    show::text(b"\n1303 octets, an escape and a flag:");
+    feed(over, b"\x7d\x7e", &mut assembly);
+    // The discard is not forgotten at the end of a call, and ends at the flag.
+    show::text(b"\n1303 octets, and two frames:");
+    feed(
+        over,
+        b"\x81\x00\x53\x9a\x7e\x81\x00\x53\x9a\x7e",
+        &mut assembly,
+    );
+    show::text(b"\n");
+}
+
+fn one(wire: &[u8]) {
+    let mut assembly = [0u8; 1302];
+    show::text(b"wire");
+    show::octets(wire);
+    show::text(b":");
+    feed(Reader::fresh(), wire, &mut assembly);
+    show::text(b"\n");
+}
+
+fn two(first: &[u8], second: &[u8]) {
+    let mut assembly = [0u8; 1302];
+    show::text(b"wire");
+    show::octets(first);
+    show::text(b" |");
+    show::octets(second);
+    show::text(b":");
+    let reader = feed(Reader::fresh(), first, &mut assembly);
+    feed(reader, second, &mut assembly);
+    show::text(b"\n");
+}
+
+// Offers a chunk until it is used up, and says what each call gave.
+fn feed(reader: Reader, chunk: &[u8], assembly: &mut [u8]) -> Reader {
+    let mut reader = reader;
+    let mut at: usize = 0;
+    while at < chunk.len() {
+        let r = offer(reader, &chunk[at..], assembly);
+        let read = r.read;
+        let fate = r.fate;
+        if read == 0 {
+            return reader;
+        }
+        if chunk.len() - at < read {
+            return reader;
+        }
+        reader = r.reader;
+        at += read;
+        tell(fate, read, assembly);
+    }
+    reader
+}
+
+// One call, where reader and buffer are such as it takes.
+fn offer(reader: Reader, chunk: &[u8], assembly: &mut [u8]) -> Reading {
+    if reader.keeps_rules() {
+        if Reader::MOST_GATHERED <= assembly.len() {
+            return read_frame(reader, chunk, assembly);
+        }
+    }
+    Reading {
+        fate: Fate::Unfinished,
+        read: 0,
+        reader,
+    }
+}
+
+fn tell(fate: Fate, read: usize, assembly: &[u8]) {
+    show::text(b" fate ");
+    show::number(number(fate));
+    show::text(b" read ");
+    show::number(read);
+    if let Fate::Checked(n) = fate {
+        show::text(b" body");
+        if 16 < n {
+            show::text(b" of ");
+            show::number(n);
+        } else if n <= assembly.len() {
+            show::octets(&assembly[..n]);
+        }
+    }
+}
+
+fn number(fate: Fate) -> usize {
+    match fate {
+        Fate::Unfinished => 0,
+        Fate::Checked(_) => 1,
+        Fate::Short => 2,
+        Fate::WrongCheck => 3,
+        Fate::TooLong => 4,
+        Fate::CutEscape => 5,
+        Fate::BadHeader => 6,
+    }
+}
