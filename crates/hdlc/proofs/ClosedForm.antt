@@ -1,27 +1,20 @@
 -- PROMISE: what one call gives, in closed form. From any reader that keeps its rules and any assembly buffer of 1,302 octets or more,
 -- fate, octets read, reader and buffer at exit are those of the piece that the call ended in: the buffer holds its gathered octets, at
 -- most 1,302, from the front, and beyond them what it held. Assumes nothing.
-use mathlib.Core.Bool.{Bool, true, false, cond, true≢false, false≢true}
+use mathlib.Core.Bool.{true, false, cond}
 use mathlib.Core.Path.{_≡_, refl, sym, ap, ap₂, _∙_}
-use mathlib.Core.List.{List, [], _∷_, _++_, append-nil}
-use Prim.Native.Nat.{ℕ, _+_, _≤_, _<_}
+use mathlib.Core.List.{List, [], _∷_, _++_}
+use Prim.Native.Nat.{ℕ, _≤_, _<_}
 use native.Mathlib.Omega.{arith}
-use borrow.Author.Tests.{ltb-false, eqb-true, lt-ltb, le-ltb}
-use lib.Dec.{ltb, eqb}
 use lib.ListN.{length, take, drop, length-append, take-append-drop}
-use lib.Seq.{length-take-le, take-at}
-use Rattle.octets.specs.Runs.{emitted}
+use lib.Seq.{length-take-le}
 use Rattle.octets.proofs.LawsTests.{by-test}
-use Rattle.hdlc.specs.declared.kind.Kind.{Kind}
-use Rattle.hdlc.specs.declared.kind.Kind.the-variants.{Flag, Escape, Skipped, Plain}
 use Rattle.hdlc.specs.declared.reader.Reader.{Reader}
-use Rattle.hdlc.specs.Kinds.{kindOf}
 use Rattle.hdlc.specs.Frame.{stuffed}
-use Rattle.hdlc.specs.Reading.{decided, mostGathered, gathering, overlong, fresh, Held, held, afterKind, after, fateAt, Outcome, later, run}
-use Rattle.hdlc.specs.Rules.{Rules, rules}
-use Rattle.hdlc.specs.Wire.{kept, meant, pends, gathered, cutEscape, verdictAs, verdictAt, grown, Call, laterCall, call}
-use Rattle.hdlc.specs.Histories.{readerAfter, over, holding, openPiece, closed}
-use Rattle.hdlc.proofs.LawsPieces.{gathered-append, cut-append}
+use Rattle.hdlc.specs.Reading.{decided, mostGathered, gathering, overlong, held, later, run}
+use Rattle.hdlc.specs.Rules.{Rules}
+use Rattle.hdlc.specs.Wire.{gathered, cutEscape, verdictAt, grown, call}
+use Rattle.hdlc.specs.States.{over, holding, openPiece, closed}
 use Rattle.hdlc.proofs.LawsStates.{over-few, over-more, going, thrown, fate-verdict, after-undecided, after-decided}
 use Rattle.hdlc.proofs.LawsStuffing.{stuffed-gives, spelled}
 
@@ -33,7 +26,7 @@ call-closed [] p a room = refl
 call-closed (b ∷ bs) p a room =
     by-test (decided (verdictAt p b))
     (λ t.
-    simp (fate-verdict p a b, t) (λ i. record { fate = verdictAt p b; read = 1; held = after-decided p a b t i }))
+    simp (fate-verdict p a b, t) (λ i. record { fate = verdictAt p b; read = 1; state = after-decided p a b t i }))
     (λ t.
     simp (fate-verdict p a b, t, after-undecided p a b room t) (ap (later 1) (call-closed bs (grown p b) a room)))
 

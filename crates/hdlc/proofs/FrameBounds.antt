@@ -1,15 +1,13 @@
 -- PROMISE: a body of n octets takes at least n + 4 and at most 2 n + 6 octets framed (01, Octets on the wire). Assumes nothing.
-use mathlib.Core.List.{List, [], _∷_, _++_}
+use mathlib.Core.List.{List, [], _∷_}
 use Prim.Native.Nat.{ℕ, _+_, _*_, _≤_}
 use native.Mathlib.Omega.{arith}
 use lib.ListN.{length, length-append}
-use Rattle.octets.specs.LittleEndian.{leOctets}
-use Rattle.octets.proofs.LawsLittleEndian.{length-le}
 use Rattle.hdlc.specs.declared.kind.Kind.{Kind}
 use Rattle.hdlc.specs.declared.kind.Kind.the-variants.{Flag, Escape, Skipped, Plain}
 use Rattle.hdlc.specs.Kinds.{kindOf}
-use Rattle.hdlc.specs.Fcs.{fcs}
 use Rattle.hdlc.specs.Frame.{sentAs, sent, stuffed, checked, frame}
+use Rattle.hdlc.proofs.LawsFrame.{checked-length}
 
 sent-bounds : (b : ℕ) → (1 ≤ length (sent b)) × (length (sent b) ≤ 2)
 unfolding sent
@@ -30,12 +28,7 @@ stuffed-bounds (x ∷ xs) =
     omega (arith, length-append (sent x) (stuffed xs))
 
 pub frame-bounds : (body : List ℕ) → (length body + 4 ≤ length (frame body)) × (length (frame body) ≤ 2 * length body + 6)
-unfolding frame checked
+unfolding frame
 frame-bounds body =
-    let stuff = stuffed-bounds (body ++ leOctets 2 (fcs body)) in
-    omega (
-      arith,
-      length-append (stuffed (body ++ leOctets 2 (fcs body))) (0x7e ∷ []),
-      length-append body (leOctets 2 (fcs body)),
-      length-le 2 (fcs body),
-    )
+    let stuff = stuffed-bounds (checked body) in
+    omega (arith, length-append (stuffed (checked body)) (0x7e ∷ []), checked-length body)

@@ -12,6 +12,8 @@ use lib.Seq.{sets-eq}
 use Rattle.octets.specs.LittleEndian.{leOctets}
 use Rattle.octets.specs.Writing.{Wrote}
 use Rattle.octets.proofs.LawsLists.{drop-next}
+use Rattle.octets.proofs.LawsLittleEndian.{length-le}
+use Rattle.octets.proofs.LawsRuns.{each-append}
 use Rattle.hdlc.specs.declared.kind.Kind.{Kind}
 use Rattle.hdlc.specs.declared.kind.Kind.the-variants.{Flag, Escape, Skipped, Plain}
 use Rattle.hdlc.specs.Kinds.{kindOf}
@@ -34,10 +36,9 @@ pub sent-escaped : {k : Kind} (b : ℕ) → k ≡ kindOf b → OneOf (0 ∷ 1 �
 unfolding sent
 sent-escaped {k} b e o = ap (λ k. sentAs k b) (sym e) ∙ as-escaped k b o
 
-pub stuffed-append : (xs ys : List ℕ) → stuffed (xs ++ ys) ≡ stuffed xs ++ stuffed ys
+stuffed-append : (xs ys : List ℕ) → stuffed (xs ++ ys) ≡ stuffed xs ++ stuffed ys
 unfolding stuffed
-stuffed-append [] ys = refl
-stuffed-append (x ∷ xs) ys = ap (λ zs. sent x ++ zs) (stuffed-append xs ys) ∙ sym (append-assoc (sent x) (stuffed xs) (stuffed ys))
+stuffed-append xs ys = each-append sent xs ys
 
 pub stuffed-next : (xs : List ℕ) (i : ℕ) → i < length xs → stuffed (drop i xs) ≡ sent (getD xs i 0) ++ stuffed (drop (i + 1) xs)
 unfolding stuffed
@@ -50,6 +51,10 @@ stuffed-next-length xs i h = ap length (stuffed-next xs i h) ∙ length-append (
 pub stuffed-done : (xs : List ℕ) (i : ℕ) → length xs ≤ i → stuffed (drop i xs) ≡ []
 unfolding stuffed
 stuffed-done xs i h = ap stuffed (drop-of-length-le xs h)
+
+pub checked-length : (body : List ℕ) → length (checked body) ≡ length body + 2
+unfolding checked
+checked-length body = length-append body _ ∙ ap (λ n. length body + n) (length-le 2 _)
 
 -- ---- a frame in the order in which it is written
 

@@ -1,15 +1,15 @@
 -- What octets add to a piece. Assumes nothing.
-use mathlib.Core.Bool.{Bool, true, false, cond}
-use mathlib.Core.Path.{_≡_, refl, sym, ap, _∙_}
-use mathlib.Core.List.{List, [], _∷_, _++_, append-nil, foldl, foldl-append}
+use mathlib.Core.Bool.{Bool, true, false}
+use mathlib.Core.Path.{_≡_, ap, _∙_}
+use mathlib.Core.List.{List, [], _∷_, _++_, foldl, foldl-append}
 use Prim.Native.Nat.{ℕ}
 use lib.Bits.{bitXor}
-use Rattle.octets.specs.Runs.{each, emitted}
+use Rattle.octets.specs.Runs.{emitted}
 use Rattle.octets.proofs.LawsRuns.{each-append, emitted-append}
 use Rattle.hdlc.specs.declared.kind.Kind.{Kind}
-use Rattle.hdlc.specs.declared.kind.Kind.the-variants.{Flag, Escape, Skipped, Plain}
+use Rattle.hdlc.specs.declared.kind.Kind.the-variants.{Escape, Skipped, Plain}
 use Rattle.hdlc.specs.Kinds.{kindOf}
-use Rattle.hdlc.specs.Wire.{keptAs, kept, isEscape, meant, pends, gathered, cutEscape}
+use Rattle.hdlc.specs.Wire.{keptAs, kept, meant, pends, gathered, cutEscape}
 
 kept-append : (p q : List ℕ) → kept (p ++ q) ≡ kept p ++ kept q
 unfolding kept

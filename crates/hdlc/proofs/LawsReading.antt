@@ -10,7 +10,7 @@ use lib.ListN.{length, getD, drop, drop-of-length-le}
 use Rattle.octets.proofs.LawsLists.{drop-next}
 use Rattle.hdlc.specs.declared.reader.Fate.{Fate}
 use Rattle.hdlc.specs.declared.reader.Fate.the-variants.{Unfinished, Checked, Short, WrongCheck, TooLong, CutEscape, BadHeader}
-use Rattle.hdlc.specs.Reading.{Held, after, fateAt, decided, Outcome, later, run}
+use Rattle.hdlc.specs.Reading.{Held, after, fateAt, decided, Read, later, run}
 use Rattle.hdlc.proofs.reader.Fate.{the-type as fate-type}
 
 -- the `else` of an `if let` tells that the tag is one of the others
@@ -23,19 +23,19 @@ tag-decided TooLong o = refl
 tag-decided CutEscape o = refl
 tag-decided BadHeader o = refl
 
-pub later-zero : (o : Outcome) → later 0 o ≡ o
-later-zero o = λ i. record { fate = o .fate; read = zero-add (o .read) i; held = o .held }
+pub later-zero : {S : Type 0} (o : Read S) → later 0 o ≡ o
+later-zero o = λ i. record { fate = o .fate; read = zero-add (o .read) i; state = o .state }
 
-pub later-later : (m n : ℕ) (o : Outcome) → later m (later n o) ≡ later (m + n) o
-later-later m n o = λ i. record { fate = o .fate; read = sym (add-assoc m n (o .read)) i; held = o .held }
+pub later-later : {S : Type 0} (m n : ℕ) (o : Read S) → later m (later n o) ≡ later (m + n) o
+later-later m n o = λ i. record { fate = o .fate; read = sym (add-assoc m n (o .read)) i; state = o .state }
 
 -- ---- the outcome of what is left from `at` on
 
 pub run-end : (h : Held) (xs : List ℕ) (at : ℕ) → length xs ≤ at
-    → later at (run h (drop at xs)) ≡ record { fate = Unfinished; read = at; held = h }
+    → later at (run h (drop at xs)) ≡ record { fate = Unfinished; read = at; state = h }
 unfolding run
 run-end h xs at p =
-    ap (λ ys. later at (run h ys)) (drop-of-length-le xs p) ∙ (λ i. record { fate = Unfinished; read = add-zero at i; held = h })
+    ap (λ ys. later at (run h ys)) (drop-of-length-le xs p) ∙ (λ i. record { fate = Unfinished; read = add-zero at i; state = h })
 
 -- after one octet more, which gives the fate f and the state g
 module _
@@ -45,6 +45,6 @@ module _
   unfolding run
   run-next e = ap (λ ys. later at (run h ys)) (drop-next xs at inside) ∙ rw (← fate, ← next, e) (later-later at 1 _)
 
-  pub run-decided : decided f ≡ true → later at (run h (drop at xs)) ≡ record { fate = f; read = at + 1; held = g }
+  pub run-decided : decided f ≡ true → later at (run h (drop at xs)) ≡ record { fate = f; read = at + 1; state = g }
   unfolding run
   run-decided e = ap (λ ys. later at (run h ys)) (drop-next xs at inside) ∙ rw (← fate, ← next, e)

@@ -1,8 +1,8 @@
 -- The reader's state after each octet is the state of the piece after it. Assumes nothing.
 use mathlib.Core.Bool.{Bool, true, false, cond, true≢false, false≢true}
-use mathlib.Core.Path.{_≡_, refl, sym, ap, ap₂, subst, _∙_}
+use mathlib.Core.Path.{_≡_, refl, sym, ap, ap₂, _∙_}
 use mathlib.Core.List.{List, [], _∷_, _++_, append-assoc, append-nil}
-use Prim.Native.Nat.{ℕ, suc, _+_, _-_, _/_, _≤_, _<_}
+use Prim.Native.Nat.{ℕ, suc, _+_, _/_, _≤_, _<_}
 use native.Mathlib.Omega.{arith}
 use native.Mathlib.Numerals.{add-one}
 use borrow.Author.Tests.{ltb-true, ltb-false, eqb-true, lt-ltb, le-ltb}
@@ -13,14 +13,12 @@ use lib.Seq.{take-all, take-append-le, take-append-seam, set-at, drop-cons}
 use Rattle.octets.proofs.LawsTests.{by-test}
 use Rattle.hdlc.specs.declared.kind.Kind.{Kind}
 use Rattle.hdlc.specs.declared.kind.Kind.the-variants.{Flag, Escape, Skipped, Plain}
-use Rattle.hdlc.specs.declared.reader.Fate.{Fate}
 use Rattle.hdlc.specs.declared.reader.Fate.the-variants.{Unfinished, CutEscape}
-use Rattle.hdlc.specs.declared.reader.Reader.{Reader}
 use Rattle.hdlc.specs.Fcs.{fcs}
 use Rattle.hdlc.specs.Kinds.{kindOf}
 use Rattle.hdlc.specs.Reading.{decided, bodyOf, checkOf, judged, mostGathered, gathering, overlong, fresh, Held, held, gather, content, afterKind, after, flagFate, fateKind, fateAt}
 use Rattle.hdlc.specs.Wire.{keptAs, kept, gathered, cutEscape, verdict, growsAs, grown, verdictAs, verdictAt}
-use Rattle.hdlc.specs.Histories.{readerAfter, over, holding}
+use Rattle.hdlc.specs.States.{readerAfter, over, holding}
 use Rattle.hdlc.proofs.LawsPieces.{Adds, gathered-append, skipped-adds, escaped-adds, escape-adds, plain-adds}
 
 -- ---- gathered octets over a buffer

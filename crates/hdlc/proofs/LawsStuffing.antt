@@ -2,18 +2,17 @@
 use mathlib.Core.Bool.{Bool, true, false, cond}
 use mathlib.Core.Path.{_≡_, refl, sym, ap, subst, _∙_}
 use mathlib.Core.List.{List, [], _∷_, _++_, append-assoc, append-nil}
-use Prim.Native.Nat.{ℕ, _+_}
-use native.Mathlib.Nat.{zero-add, add-assoc}
+use Prim.Native.Nat.{ℕ}
 use borrow.Author.Tests.{eqb-true}
 use lib.Dec.{eqb}
 use lib.ListN.{length, length-append}
-use Rattle.octets.specs.Runs.{emitted}
 use Rattle.octets.proofs.LawsTests.{by-test}
-use Rattle.hdlc.specs.declared.kind.Kind.{Kind}
 use Rattle.hdlc.specs.declared.kind.Kind.the-variants.{Plain}
 use Rattle.hdlc.specs.Kinds.{kindOf}
 use Rattle.hdlc.specs.Frame.{sent, stuffed}
-use Rattle.hdlc.specs.Wire.{kept, meant, pends, gathered, cutEscape, grown, verdictAt, Call, laterCall, call}
+use Rattle.hdlc.specs.Reading.{later}
+use Rattle.hdlc.specs.Wire.{kept, meant, pends, gathered, cutEscape, grown, verdictAt, call}
+use Rattle.hdlc.proofs.LawsReading.{later-zero, later-later}
 use Rattle.hdlc.proofs.LawsPieces.{gathered-append, cut-append}
 
 -- an octet is one of the five that are escaped, or plain
@@ -30,14 +29,11 @@ record Sent (b : ℕ) : Type 0 where
   gives : gathered (sent b) ≡ b ∷ []
   whole : cutEscape (sent b) ≡ false
   -- a call goes on behind it
-  passed : (p xs : List ℕ) → call p (sent b ++ xs) ≡ laterCall (length (sent b)) (call (p ++ sent b) xs)
-
-later-twice : (m n : ℕ) (c : Call) → laterCall m (laterCall n c) ≡ laterCall (m + n) c
-later-twice m n c = λ i. record { fate = c .fate; read = sym (add-assoc m n (c .read)) i; piece = c .piece }
+  passed : (p xs : List ℕ) → call p (sent b ++ xs) ≡ later (length (sent b)) (call (p ++ sent b) xs)
 
 -- an escape and what it is for
-escaped-passed : (p xs : List ℕ) (b : ℕ) → laterCall 1 (laterCall 1 (call ((p ++ (0x7d ∷ [])) ++ (b ∷ [])) xs)) ≡ laterCall 2 (call (p ++ (0x7d ∷ b ∷ [])) xs)
-escaped-passed p xs b = later-twice 1 1 _ ∙ ap (λ q. laterCall 2 (call q xs)) (append-assoc p (0x7d ∷ []) (b ∷ []))
+escaped-passed : (p xs : List ℕ) (b : ℕ) → later 1 (later 1 (call ((p ++ (0x7d ∷ [])) ++ (b ∷ [])) xs)) ≡ later 2 (call (p ++ (0x7d ∷ b ∷ [])) xs)
+escaped-passed p xs b = later-later 1 1 _ ∙ ap (λ q. later 2 (call q xs)) (append-assoc p (0x7d ∷ []) (b ∷ []))
 
 is-sent : (b : ℕ) → Sent b
 unfolding sent kindOf gathered cutEscape kept meant pends call verdictAt grown
@@ -70,12 +66,12 @@ spelled xs true =
     )
 spelled xs false = rw (append-nil (stuffed xs)) (stuffed-gives xs)
 
-pub stuffed-passed : (xs p ys : List ℕ) → call p (stuffed xs ++ ys) ≡ laterCall (length (stuffed xs)) (call (p ++ stuffed xs) ys)
+pub stuffed-passed : (xs p ys : List ℕ) → call p (stuffed xs ++ ys) ≡ later (length (stuffed xs)) (call (p ++ stuffed xs) ys)
 unfolding stuffed
-stuffed-passed [] p ys = ap (λ q. call q ys) (sym (append-nil p)) ∙ (λ i. record { fate = call (p ++ []) ys .fate; read = sym (zero-add (call (p ++ []) ys .read)) i; piece = call (p ++ []) ys .piece })
+stuffed-passed [] p ys = ap (λ q. call q ys) (sym (append-nil p)) ∙ sym (later-zero _)
 stuffed-passed (x ∷ xs) p ys =
     ap (call p) (append-assoc (sent x) (stuffed xs) ys)
     ∙ is-sent x .passed p (stuffed xs ++ ys)
-    ∙ ap (laterCall (length (sent x))) (stuffed-passed xs (p ++ sent x) ys)
-    ∙ later-twice (length (sent x)) (length (stuffed xs)) _
-    ∙ (λ i. laterCall (sym (length-append (sent x) (stuffed xs)) i) (call (append-assoc p (sent x) (stuffed xs) i) ys))
+    ∙ ap (later (length (sent x))) (stuffed-passed xs (p ++ sent x) ys)
+    ∙ later-later (length (sent x)) (length (stuffed xs)) _
+    ∙ (λ i. later (sym (length-append (sent x) (stuffed xs)) i) (call (append-assoc p (sent x) (stuffed xs) i) ys))

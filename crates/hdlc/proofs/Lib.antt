@@ -1,5 +1,4 @@
 pub mod LawsFcs
-pub mod LawsFcsBound
 pub mod LawsFrame
 pub mod LawsReading
 pub mod LawsPieces
@@ -8,6 +7,7 @@ pub mod LawsStuffing
 pub mod FrameBounds
 pub mod ClosedForm
 pub mod ReaderRules
+pub mod LawsCalls
 pub mod AnyCuts
 pub mod RoundTrip
 pub mod Resynchronization

@@ -1,18 +1,18 @@
 -- PROMISE: the reader's rules are decided by their test and kept by every octet and every call. Assumes nothing.
-use mathlib.Core.Bool.{Bool, true, false, cond, true≢false, false≢true}
-use mathlib.Core.Path.{_≡_, refl, sym, ap, _∙_}
+use mathlib.Core.Bool.{true, true≢false, false≢true}
+use mathlib.Core.Path.{_≡_, sym, ap, _∙_}
 use mathlib.Core.List.{List}
 use Prim.Native.Nat.{ℕ, _≤_}
 use native.Mathlib.Omega.{arith}
 use borrow.Author.Tests.{ltb-false, eqb-true, le-ltb, eq-eqb}
-use lib.Dec.{ltb, eqb}
+use lib.Dec.{ltb}
 use lib.ListN.{length}
 use Rattle.octets.proofs.LawsTests.{by-test}
 use Rattle.hdlc.specs.declared.reader.Reader.{Reader}
-use Rattle.hdlc.specs.Reading.{decided, mostGathered, gathering, overlong, fresh, Held, held, after, run}
+use Rattle.hdlc.specs.Reading.{decided, mostGathered, fresh, Held, held, after, run}
 use Rattle.hdlc.specs.Rules.{Rules, rules}
-use Rattle.hdlc.specs.Wire.{gathered, cutEscape, verdictAt, grown, call}
-use Rattle.hdlc.specs.Histories.{readerAfter, holding, openPiece, closed}
+use Rattle.hdlc.specs.Wire.{gathered, verdictAt, grown, call}
+use Rattle.hdlc.specs.States.{readerAfter, holding, openPiece, closed}
 use Rattle.hdlc.proofs.LawsStates.{after-undecided, after-decided}
 use Rattle.hdlc.proofs.ClosedForm.{open-holds, closed-form}
 
@@ -52,9 +52,9 @@ after-rules h b room e =
     ∙ by-test (decided (verdictAt p b)) (λ t. ap (λ z. rules (z .reader)) (after-decided p (h .assembly) b t))
     (λ t. ap (λ z. rules (z .reader)) (after-undecided p (h .assembly) b room t) ∙ reader-after (grown p b))
 
-pub run-rules : (r : Reader) (a xs : List ℕ) → Rules r → mostGathered ≤ length a → rules (run (held r a) xs .held .reader) ≡ true
+pub run-rules : (r : Reader) (a xs : List ℕ) → Rules r → mostGathered ≤ length a → rules (run (held r a) xs .state .reader) ≡ true
 unfolding closed rules
 run-rules r a xs keeps room =
     let c = call (openPiece r a) xs in
-    ap (λ o. rules (o .held .reader)) (closed-form r a xs keeps room)
-    ∙ by-test (decided (c .fate)) (λ t. simp t) (λ t. simp t (reader-after (c .piece)))
+    ap (λ o. rules (o .state .reader)) (closed-form r a xs keeps room)
+    ∙ by-test (decided (c .fate)) (λ t. simp t) (λ t. simp t (reader-after (c .state)))

@@ -2,9 +2,9 @@
 -- of 1,302 octets or more, 7E and then the frame of a body give first the fate of what was open, if it has one, and then fate 1 where the
 -- body's top two header bits are 10 and fate 6 where not, with that body at the front of the buffer. Assumes nothing.
 use mathlib.Core.Bool.{true, false, cond}
-use mathlib.Core.Path.{_≡_, refl, sym, ap, ap₂, _∙_}
+use mathlib.Core.Path.{_≡_, refl, sym, ap, _∙_}
 use mathlib.Core.List.{List, [], _∷_, _++_, append-nil, append-assoc}
-use Prim.Native.Nat.{ℕ, zero, suc, _+_, _/_, _≤_}
+use Prim.Native.Nat.{ℕ, suc, _+_, _/_, _≤_}
 use native.Mathlib.Omega.{arith}
 use lib.Dec.{eqb}
 use lib.ListN.{length, getD, take, drop, drop-of-length-le}
@@ -12,8 +12,6 @@ use lib.Seq.{take-length, drop-length, take-append-seam}
 use Rattle.octets.specs.Octets.{Octets}
 use Rattle.octets.specs.LittleEndian.{leOctets}
 use Rattle.octets.proofs.LawsTests.{by-test}
-use Rattle.hdlc.specs.declared.reader.Fate.{Fate}
-use Rattle.hdlc.specs.declared.reader.Fate.the-variants.{Unfinished, Checked, BadHeader}
 use Rattle.hdlc.specs.declared.reader.Reader.{Reader}
 use Rattle.hdlc.specs.Fcs.{fcs}
 use Rattle.hdlc.specs.Kinds.{kindOf}
@@ -37,16 +35,16 @@ record Calls (h : Held) (xss : List (List ℕ)) (vs : List Verdict) (h′ : Held
 
 -- what a call with a fate left unread is offered again
 offers-on : {h h′ : Held} {o : Outcome} {vs : List Verdict} (n : ℕ) (xs : List ℕ) → run h xs ≡ o → decided (o .fate) ≡ true
-    → Calls (o .held) (offers n (o .held) (drop (o .read) xs)) vs h′ → Calls h (offers (suc n) h xs) (told (o .fate) (o .held .assembly) ++ vs) h′
+    → Calls (o .state) (offers n (o .state) (drop (o .read) xs)) vs h′ → Calls h (offers (suc n) h xs) (told (o .fate) (o .state .assembly) ++ vs) h′
 unfolding callsTell callsLeave offers
 offers-on {o = o} n xs is t rest =
-    let again : Outcome → List (List ℕ) = λ z. cond (decided (z .fate)) (offers n (z .held) (drop (z .read) xs)) [] in
-    let go-on : again o ≡ offers n (o .held) (drop (o .read) xs) = simp t in
+    let again : Outcome → List (List ℕ) = λ z. cond (decided (z .fate)) (offers n (z .state) (drop (z .read) xs)) [] in
+    let go-on : again o ≡ offers n (o .state) (drop (o .read) xs) = simp t in
     record {
       tells =
-          ap (λ z. told (z .fate) (z .held .assembly) ++ callsTell (z .held) (again z)) is
-          ∙ ap (λ l. told (o .fate) (o .held .assembly) ++ l) (ap (callsTell (o .held)) go-on ∙ rest .tells);
-      leaves = ap (λ z. callsLeave (z .held) (again z)) is ∙ ap (callsLeave (o .held)) go-on ∙ rest .leaves;
+          ap (λ z. told (z .fate) (z .state .assembly) ++ callsTell (z .state) (again z)) is
+          ∙ ap (λ l. told (o .fate) (o .state .assembly) ++ l) (ap (callsTell (o .state)) go-on ∙ rest .tells);
+      leaves = ap (λ z. callsLeave (z .state) (again z)) is ∙ ap (callsLeave (o .state)) go-on ∙ rest .leaves;
     }
 
 -- no octets: nothing is told and nothing changes
@@ -86,13 +84,13 @@ module _ (r : Reader) (a body : List ℕ) (room : mostGathered ≤ length a) (si
   untold t = simp t
 
   -- a frame is read by one call, and the next has nothing to read
-  frame-calls : (n : ℕ) → Calls (held fresh a) (offers (suc (suc n)) (held fresh a) (frame body)) (told (headed body) body) (read-frame .held)
+  frame-calls : (n : ℕ) → Calls (held fresh a) (offers (suc (suc n)) (held fresh a) (frame body)) (told (headed body) body) (read-frame .state)
   unfolding read-frame
   frame-calls n =
       told-as (append-nil _ ∙ told-frame)
       (offers-on (suc n) (frame body) (round-trip body size octets a room) (headed-decided body) (used-up n _ _ (drop-length (frame body))))
 
-  calls : Calls (held r a) (offered (held r a) (0x7e ∷ frame body)) (told (flagFate (held r a)) a ++ told (headed body) body) (read-frame .held)
+  calls : Calls (held r a) (offered (held r a) (0x7e ∷ frame body)) (told (flagFate (held r a)) a ++ told (headed body) body) (read-frame .state)
   unfolding offered frame told read-frame
   calls =
       by-test (decided (flagFate (held r a))) (λ t. offers-on _ (0x7e ∷ frame body) (decided-first t) t (frame-calls _))

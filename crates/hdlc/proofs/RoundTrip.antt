@@ -1,14 +1,13 @@
 -- PROMISE: a frame that was written is read back. A fresh reader with any assembly buffer of 1,302 octets or more reads a body's frame to
 -- its last flag, with fate 1 where the top two header bits are 10 and fate 6 where not, and leaves body and check at the front of the
 -- buffer. Assumes nothing.
-use mathlib.Core.Bool.{Bool, true, false, cond}
+use mathlib.Core.Bool.{true, cond}
 use mathlib.Core.Path.{_≡_, refl, sym, ap, ap₂, _∙_}
-use mathlib.Core.List.{List, [], _∷_, _++_, append-nil}
-use Prim.Native.Nat.{ℕ, suc, _+_, _-_, _/_, _≤_, _<_}
+use mathlib.Core.List.{List, [], _∷_, _++_}
+use Prim.Native.Nat.{ℕ, suc, _+_, _-_, _/_, _≤_}
 use native.Mathlib.Omega.{arith}
-use native.Mathlib.Numerals.{add-one, one-add}
 use borrow.Author.Tests.{le-ltb, eq-eqb, ne-eqb}
-use lib.Dec.{ltb, eqb}
+use lib.Dec.{eqb}
 use lib.ListN.{length, getD, take, drop, length-append, List·getD-append}
 use lib.Seq.{take-at, drop-at, take-all}
 use Rattle.octets.specs.Octets.{Octets}
@@ -16,21 +15,21 @@ use Rattle.octets.specs.LittleEndian.{le, leAt, leOctets}
 use Rattle.octets.proofs.LawsLittleEndian.{length-le}
 use Rattle.octets.proofs.LittleEndianRoundTrip.{number-back}
 use Rattle.octets.proofs.LawsTests.{by-test}
-use Rattle.hdlc.specs.declared.reader.Fate.{Fate}
 use Rattle.hdlc.specs.declared.reader.Fate.the-variants.{Checked, BadHeader}
 use Rattle.hdlc.specs.Fcs.{fcs}
 use Rattle.hdlc.specs.Kinds.{kindOf}
 use Rattle.hdlc.specs.Frame.{Body, stuffed, checked, frame}
-use Rattle.hdlc.specs.Reading.{decided, bodyOf, checkOf, judged, headed, mostGathered, fresh, held, Outcome, outcome, run}
-use Rattle.hdlc.specs.Wire.{kept, gathered, cutEscape, verdict, grown, verdictAt, Call, laterCall, call}
-use Rattle.hdlc.specs.Histories.{readerAfter, over, holding, closed}
-use Rattle.hdlc.proofs.LawsFcsBound.{fcs-bound}
+use Rattle.hdlc.specs.Reading.{later, decided, bodyOf, checkOf, judged, headed, mostGathered, fresh, held, outcome, run}
+use Rattle.hdlc.specs.Wire.{kept, gathered, cutEscape, verdict, grown, verdictAt, call}
+use Rattle.hdlc.specs.States.{readerAfter, over, holding, closed}
+use Rattle.hdlc.proofs.LawsFcs.{fcs-bound}
+use Rattle.hdlc.proofs.LawsFrame.{checked-length}
 use Rattle.hdlc.proofs.LawsStuffing.{stuffed-gives, stuffed-passed}
 use Rattle.hdlc.proofs.LawsStates.{over-few}
 use Rattle.hdlc.proofs.ClosedForm.{call-closed}
 
 -- the first flag ends nothing
-first-flag : (xs : List ℕ) → call [] (0x7e ∷ xs) ≡ laterCall 1 (call [] xs)
+first-flag : (xs : List ℕ) → call [] (0x7e ∷ xs) ≡ later 1 (call [] xs)
 unfolding call verdictAt verdict grown kindOf gathered cutEscape kept
 first-flag xs = refl
 
@@ -39,18 +38,14 @@ unfolding headed
 headed-decided body = by-test (eqb (getD body 0 0 / 64) 2) (λ t. simp t) (λ t. simp t)
 
 module _ (body : List ℕ) (size : Body body) (octets : Octets body) where
-  checked-length : length (checked body) ≡ length body + 2
-  unfolding checked
-  checked-length = length-append body (leOctets 2 (fcs body)) ∙ ap (λ n. length body + n) (length-le 2 (fcs body))
-
   checked-body : bodyOf (checked body) ≡ body
   unfolding bodyOf checked
-  checked-body = take-at body (leOctets 2 (fcs body)) (length (checked body) - 2) (omega (arith, checked-length))
+  checked-body = take-at body (leOctets 2 (fcs body)) (length (checked body) - 2) (omega (arith, checked-length body))
 
   checked-check : checkOf (checked body) ≡ fcs body
   unfolding checkOf checked leAt
   checked-check =
-      ap (λ l. le (take 2 l)) (drop-at body (leOctets 2 (fcs body)) (length (checked body) - 2) (omega (arith, checked-length)))
+      ap (λ l. le (take 2 l)) (drop-at body (leOctets 2 (fcs body)) (length (checked body) - 2) (omega (arith, checked-length body)))
       ∙ ap le (take-all 2 (leOctets 2 (fcs body)) (omega (arith, length-le 2 (fcs body))))
       ∙ number-back 2 (fcs body) (fcs-bound body octets)
 
@@ -62,10 +57,10 @@ module _ (body : List ℕ) (size : Body body) (octets : Octets body) where
   unfolding judged headed
   checked-judged =
       simp (
-        le-ltb (length (checked body)) 4 (omega (arith, checked-length, size .0)),
+        le-ltb (length (checked body)) 4 (omega (arith, checked-length body, size .0)),
         eq-eqb (checkOf (checked body)) (fcs (bodyOf (checked body))) (checked-check ∙ ap fcs (sym checked-body)),
       )
-      (ap₂ (λ b n. cond (eqb (b / 64) 2) (Checked n) BadHeader) checked-first (omega (arith, checked-length)))
+      (ap₂ (λ b n. cond (eqb (b / 64) 2) (Checked n) BadHeader) checked-first (omega (arith, checked-length body)))
 
   frame-verdict : verdict (stuffed (checked body)) ≡ headed body
   unfolding verdict
@@ -74,32 +69,32 @@ module _ (body : List ℕ) (size : Body body) (octets : Octets body) where
       simp (
         s .0,
         s .1,
-        le-ltb mostGathered (length (checked body)) (omega (arith, checked-length, size .1)),
-        ne-eqb (length (checked body)) 0 (λ e. omega (arith, checked-length)),
+        le-ltb mostGathered (length (checked body)) (omega (arith, checked-length body, size .1)),
+        ne-eqb (length (checked body)) 0 (λ e. omega (arith, checked-length body)),
       )
       checked-judged
 
-  last-flag : call (stuffed (checked body)) (0x7e ∷ []) ≡ record { fate = headed body; read = 1; piece = stuffed (checked body) }
+  last-flag : call (stuffed (checked body)) (0x7e ∷ []) ≡ record { fate = headed body; read = 1; state = stuffed (checked body) }
   unfolding call verdictAt kindOf
   last-flag = rw (frame-verdict, headed-decided body)
 
-  frame-call : call [] (frame body) ≡ record { fate = headed body; read = length (frame body); piece = stuffed (checked body) }
+  frame-call : call [] (frame body) ≡ record { fate = headed body; read = length (frame body); state = stuffed (checked body) }
   unfolding frame
   frame-call =
       let q = stuffed (checked body) in
       let all : 1 + (length q + 1) ≡ suc (length (q ++ (0x7e ∷ []))) = omega (arith, length-append q (0x7e ∷ [])) in
       first-flag (q ++ (0x7e ∷ []))
-      ∙ ap (laterCall 1) (stuffed-passed (checked body) [] (0x7e ∷ []) ∙ ap (laterCall (length q)) last-flag)
-      ∙ (λ i. record { fate = headed body; read = all i; piece = q })
+      ∙ ap (later 1) (stuffed-passed (checked body) [] (0x7e ∷ []) ∙ ap (later (length q)) last-flag)
+      ∙ (λ i. record { fate = headed body; read = all i; state = q })
 
   filled : (a : List ℕ) → over (gathered (stuffed (checked body))) a ≡ checked body ++ drop (length body + 2) a
   filled a =
       ap (λ g. over g a) (stuffed-gives (checked body) .0)
-      ∙ over-few (checked body) a (omega (arith, checked-length, size .1))
-      ∙ ap (λ n. checked body ++ drop n a) checked-length
+      ∙ over-few (checked body) a (omega (arith, checked-length body, size .1))
+      ∙ ap (λ n. checked body ++ drop n a) (checked-length body)
 
   closed-frame : (a : List ℕ)
-      → closed (record { fate = headed body; read = length (frame body); piece = stuffed (checked body) }) a
+      → closed (record { fate = headed body; read = length (frame body); state = stuffed (checked body) }) a
       ≡ outcome (headed body) (length (frame body)) fresh (checked body ++ drop (length body + 2) a)
   unfolding closed
   closed-frame a = rw (headed-decided body, filled a)

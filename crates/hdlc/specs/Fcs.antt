@@ -1,7 +1,7 @@
 -- The 16-bit frame check sequence of RFC 1662, section C.1, bit by bit (01, Octets on the wire: "start all ones, low bit first,
 -- complement sent").
 use mathlib.Core.Bool.{cond}
-use mathlib.Core.List.{List, [], _∷_}
+use mathlib.Core.List.{List, foldl}
 use Prim.Native.Nat.{ℕ, zero, suc, _/_, _%_}
 use lib.Dec.{eqb}
 use lib.Bits.{bitXor}
@@ -20,8 +20,7 @@ fcsOctet r b = fcsBits 8 (bitXor r b)
 
 -- the register after octets
 unfoldable pub fcsFrom : ℕ → List ℕ → ℕ
-fcsFrom r [] = r
-fcsFrom r (b ∷ bs) = fcsFrom (fcsOctet r b) bs
+fcsFrom r xs = foldl fcsOctet r xs
 
 -- the check of a body
 unfoldable pub fcs : List ℕ → ℕ

@@ -3,6 +3,7 @@ use mathlib.Core.List.{List, [], _∷_, _++_}
 use Prim.Native.Nat.{ℕ, _≤_}
 use lib.Bits.{bitXor}
 use lib.ListN.{length, drop}
+use Rattle.octets.specs.Runs.{each}
 use Rattle.octets.specs.LittleEndian.{leOctets}
 use Rattle.hdlc.specs.declared.kind.Kind.{Kind}
 use Rattle.hdlc.specs.declared.kind.Kind.the-variants.{Flag, Escape, Skipped, Plain}
@@ -24,8 +25,7 @@ unfoldable pub sent : ℕ → List ℕ
 sent b = sentAs (kindOf b) b
 
 unfoldable pub stuffed : List ℕ → List ℕ
-stuffed [] = []
-stuffed (b ∷ bs) = sent b ++ stuffed bs
+stuffed xs = each sent xs
 
 -- a body and its check, "low octet first"
 unfoldable pub checked : List ℕ → List ℕ

@@ -4,4 +4,5 @@ pub mod Frame
 pub mod Reading
 pub mod Rules
 pub mod Wire
+pub mod States
 pub mod Histories

@@ -123,21 +123,25 @@ fateAt h b = fateKind h (kindOf b)
 
 -- ---- a call
 
--- its fate, how many octets it read, and what it leaves
-pub record Outcome : Type 0 where
+-- its fate, how many octets it read, and the state in which it ends
+pub record Read (S : Type 0) : Type 0 where
   pub fate : Fate
   pub read : ℕ
-  pub held : Held
-
-abbrev pub outcome : Fate → ℕ → Reader → List ℕ → Outcome
-outcome f n r a = record { fate = f; read = n; held = held r a }
+  pub state : S
 
 -- the same n octets later
-abbrev pub later : ℕ → Outcome → Outcome
-later n o = record { fate = o .fate; read = n + o .read; held = o .held }
+abbrev pub later : {S : Type 0} → ℕ → Read S → Read S
+later n o = record { fate = o .fate; read = n + o .read; state = o .state }
+
+-- the reader's: what it leaves, the assembly buffer with it
+abbrev pub Outcome : Type 0
+Outcome = Read Held
+
+abbrev pub outcome : Fate → ℕ → Reader → List ℕ → Outcome
+outcome f n r a = record { fate = f; read = n; state = held r a }
 
 -- "one call reads lent input until the first frame has its fate, or the input ends"; the flag is read too
 unfoldable pub run : Held → List ℕ → Outcome
-run h [] = record { fate = Unfinished; read = 0; held = h }
+run h [] = record { fate = Unfinished; read = 0; state = h }
 run h (b ∷ bs) =
-    cond (decided (fateAt h b)) (record { fate = fateAt h b; read = 1; held = after h b }) (later 1 (run (after h b) bs))
+    cond (decided (fateAt h b)) (record { fate = fateAt h b; read = 1; state = after h b }) (later 1 (run (after h b) bs))

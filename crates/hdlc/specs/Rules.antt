@@ -1,7 +1,7 @@
 -- The reader's rules (01, Setup: "gathered count at most 1,302; a reader throwing away has count 1,302 and no escape pending").
 use mathlib.Core.Bool.{Bool, true, false, cond}
 use mathlib.Core.Path.{_≡_}
-use Prim.Native.Nat.{ℕ, _≤_}
+use Prim.Native.Nat.{_≤_}
 use lib.Dec.{ltb, eqb}
 use Rattle.hdlc.specs.declared.reader.Reader.{Reader}
 use Rattle.hdlc.specs.Reading.{mostGathered}

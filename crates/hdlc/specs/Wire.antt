@@ -1,9 +1,9 @@
 -- What was received, told by its octets alone (01, Whole histories).
 use mathlib.Core.Bool.{Bool, true, false, cond}
 use mathlib.Core.List.{List, [], _∷_, _++_, foldl}
-use Prim.Native.Nat.{ℕ, _+_}
+use Prim.Native.Nat.{ℕ}
 use lib.Dec.{ltb, eqb}
-use lib.ListN.{length, take, drop}
+use lib.ListN.{length, take}
 use lib.Bits.{bitXor}
 use Rattle.octets.specs.Runs.{each, emitted}
 use Rattle.hdlc.specs.declared.kind.Kind.{Kind}
@@ -11,7 +11,7 @@ use Rattle.hdlc.specs.declared.kind.Kind.the-variants.{Flag, Escape, Ski
 use Rattle.hdlc.specs.declared.reader.Fate.{Fate}
 use Rattle.hdlc.specs.declared.reader.Fate.the-variants.{Unfinished, Checked, Short, WrongCheck, TooLong, CutEscape, BadHeader}
 use Rattle.hdlc.specs.Kinds.{kindOf}
-use Rattle.hdlc.specs.Reading.{mostGathered, number, decided, judged}
+use Rattle.hdlc.specs.Reading.{mostGathered, number, decided, judged, Read, later}
 
 -- ---- one piece: the octets between two flags
 
@@ -106,11 +106,9 @@ verdicts ps = each (λ p. told (verdict p) (gathered p)) ps
 
 -- ---- a call reads "its input to the first flag with a fate, that flag included, else all"
 
--- its fate, how many octets it read, and the piece that it ended in: the one with the fate, else the unfinished one
-pub record Call : Type 0 where
-  pub fate : Fate
-  pub read : ℕ
-  pub piece : List ℕ
+-- it ends in a piece: the one with the fate, else the unfinished one
+abbrev pub Call : Type 0
+Call = Read (List ℕ)
 
 -- the fate that an octet gives to the piece before it
 abbrev pub verdictAs : Kind → List ℕ → Fate
@@ -122,13 +120,9 @@ verdictAs Plain p = Unfinished
 unfoldable pub verdictAt : List ℕ → ℕ → Fate
 verdictAt p b = verdictAs (kindOf b) p
 
--- the same n octets later
-abbrev pub laterCall : ℕ → Call → Call
-laterCall n c = record { fate = c .fate; read = n + c .read; piece = c .piece }
-
 unfoldable pub call : List ℕ → List ℕ → Call
-call p [] = record { fate = Unfinished; read = 0; piece = p }
-call p (b ∷ bs) = cond (decided (verdictAt p b)) (record { fate = verdictAt p b; read = 1; piece = p }) (laterCall 1 (call (grown p b) bs))
+call p [] = record { fate = Unfinished; read = 0; state = p }
+call p (b ∷ bs) = cond (decided (verdictAt p b)) (record { fate = verdictAt p b; read = 1; state = p }) (later 1 (call (grown p b) bs))
 
 -- the octets that it read
 unfoldable pub callReads : List ℕ → List ℕ → List ℕ

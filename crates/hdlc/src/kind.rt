@@ -13,20 +13,10 @@ pub enum Kind {
 pub fn kind_of(octet: u8) -> Kind
     ensures { λ r. ⌜ r ≡ kindOf octet ⌝ }
 {
-    if octet == 0x7e {
-        return Kind::Flag;
+    match octet {
+        0x7e => Kind::Flag,
+        0x7d => Kind::Escape,
+        0x11 | 0x13 | 0xf8 => Kind::Skipped,
+        _ => Kind::Plain,
     }
-    if octet == 0x7d {
-        return Kind::Escape;
-    }
-    if octet == 0x11 {
-        return Kind::Skipped;
-    }
-    if octet == 0x13 {
-        return Kind::Skipped;
-    }
-    if octet == 0xf8 {
-        return Kind::Skipped;
-    }
-    Kind::Plain
 }

@@ -7,7 +7,7 @@ ghost use mathlib.Core.Bool.{Bool, true};
 ghost use mathlib.Core.Path.{_≡_};
 ghost use Prim.Native.Nat.{_≤_};
 ghost use lib.ListN.{length};
-ghost use Rattle.hdlc.specs.Reading.{mostGathered, fresh, held, outcome, judged, flagFate, gather, content, after, fateAt, decided, run};
+ghost use Rattle.hdlc.specs.Reading.{mostGathered, gathering, fresh, held, outcome, judged, flagFate, gather, content, after, fateAt, decided, run};
 ghost use Rattle.hdlc.specs.Rules.{rules};
 
 // What became of a frame: fates 0 to 6 of 01, in the order of their numbers. A checked frame's body has so many octets.
@@ -53,9 +53,16 @@ impl Reader {
     pub fn fresh() -> Reader
         ensures { λ r. ⌜ r ≡ fresh ⌝ }
     {
+        Reader::gathering(0, false)
+    }
+
+    // A reader that has gathered so many octets, with an escape pending or not.
+    fn gathering(count: usize, escaped: bool) -> Reader
+        ensures { λ r. ⌜ r ≡ gathering count escaped ⌝ }
+    {
         Reader {
-            count: 0,
-            escaped: false,
+            count,
+            escaped,
             discarding: false,
         }
     }
@@ -121,11 +128,7 @@ fn gather_octet(reader: Reader, octet: u8, assembly: &mut [u8]) -> Reader
     let count = reader.count;
     if count < Reader::MOST_GATHERED {
         assembly[count] = octet;
-        return Reader {
-            count: count + 1,
-            escaped: false,
-            discarding: false,
-        };
+        return Reader::gathering(count + 1, false);
     }
     Reader {
         count: Reader::MOST_GATHERED,
@@ -146,11 +149,7 @@ fn take_content(reader: Reader, escape: bool, octet: u8, assembly: &mut [u8]) ->
         return gather_octet(reader, octet ^ 0x20, assembly);
     }
     if escape {
-        return Reader {
-            count: reader.count,
-            escaped: true,
-            discarding: false,
-        };
+        return Reader::gathering(reader.count, true);
     }
     gather_octet(reader, octet, assembly)
 }

@@ -1,5 +1,6 @@
 // Frames as they are written. The check of each body is that of the table-driven code in RFC 1662, section C.2.
 use crate::show;
+use hdlc::Reader;
 use hdlc::write_frame;
 
 pub fn run() {
@@ -27,19 +28,27 @@ pub fn run() {
 }
 
 fn line(body: &[u8]) {
-    if body.len() < 2 {
-        return;
-    }
-    if 16 < body.len() {
-        return;
-    }
     let mut out = [0u8; 38];
-    let count = write_frame(body, &mut out);
+    let count = framed(body, &mut out);
     show::text(b"frame of");
     show::octets(body);
     show::text(b" =");
-    show::octets(&out[..count]);
+    show::octets(show::front(&out, count));
     show::text(b", ");
     show::number(count);
     show::text(b" octets\n");
+}
+
+// A body's frame at the front of `out`, and how many octets it takes; 0 where the writer does not take these.
+pub fn framed(body: &[u8], out: &mut [u8]) -> usize {
+    if body.len() < 2 {
+        return 0;
+    }
+    if Reader::MOST_BODY < body.len() {
+        return 0;
+    }
+    if out.len() < 2 * body.len() + 6 {
+        return 0;
+    }
+    write_frame(body, out)
 }

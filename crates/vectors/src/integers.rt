@@ -30,19 +30,28 @@ pub fn run() {
     read(b"\x81\x01\x81\x00");
 }
 
-// A number of at most 2,097,151 written, and what was written read back.
+// A number written, and what was written read back.
 fn written(n: u32) {
-    if 2097151 < n {
-        return;
-    }
     let mut out = [0u8; 3];
-    let end = write_packed(&mut out, 0, n);
+    let end = put(n, &mut out);
+    let octets = show::front(&out, end);
     show::text(b"packed ");
     show::number(n as usize);
     show::text(b" =");
-    show::octets(&out[..end]);
+    show::octets(octets);
     show::text(b",");
-    found(read_packed(&out[..end], 0));
+    found(read_packed(octets, 0));
+}
+
+// A number at the front of `out`, and the place after it; 0 where the writer does not take these.
+fn put(n: u32, out: &mut [u8]) -> usize {
+    if 2097151 < n {
+        return 0;
+    }
+    if out.len() < 3 {
+        return 0;
+    }
+    write_packed(out, 0, n)
 }
 
 fn read(octets: &[u8]) {

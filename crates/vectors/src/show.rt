@@ -13,8 +13,20 @@ pub fn number(n: usize) {
 pub fn octets(xs: &[u8]) {
     let mut i = 0;
     while i < xs.len() {
-        text(b" ");
-        io::print_hex(STDOUT_FILENO, xs[i] as u64, 2);
+        octet(xs[i]);
         i += 1;
     }
+}
+
+fn octet(x: u8) {
+    text(b" ");
+    io::print_hex(STDOUT_FILENO, x as u64, 2);
+}
+
+// The first `n` octets, or all where there are fewer.
+pub fn front(xs: &[u8], n: usize) -> &[u8] {
+    if xs.len() < n {
+        return xs;
+    }
+    &xs[0..n]
 }

@@ -1,10 +1,10 @@
 // Octets of the wire, read in one or several calls; what a call leaves unread is offered again. Fates are 01's (Octets on the wire).
+use crate::frames::framed;
 use crate::show;
 use hdlc::Fate;
 use hdlc::Reader;
 use hdlc::Reading;
 use hdlc::read_frame;
-use hdlc::write_frame;
 
 pub fn run() {
     // A frame, one without its first flag, and two that share a flag.
@@ -41,9 +41,9 @@ pub fn run_long() {
     let mut assembly = [0u8; 1302];
     let octets = [0x81u8; 1303];
     let mut frame = [0u8; 2606];
-    let count = write_frame(&octets[..1300], &mut frame);
+    let count = framed(&octets[..1300], &mut frame);
     show::text(b"1300 octets framed:");
-    feed(Reader::fresh(), &frame[..count], &mut assembly);
+    feed(Reader::fresh(), show::front(&frame, count), &mut assembly);
     show::text(b"\n1302 octets and a flag:");
     let full = feed(Reader::fresh(), &octets[..1302], &mut assembly);
     feed(full, b"\x7e", &mut assembly);
@@ -130,8 +130,8 @@ fn tell(fate: Fate, read: usize, assembly: &[u8]) {
         if 16 < n {
             show::text(b" of ");
             show::number(n);
-        } else if n <= assembly.len() {
-            show::octets(&assembly[..n]);
+        } else {
+            show::octets(show::front(assembly, n));
         }
     }
 }

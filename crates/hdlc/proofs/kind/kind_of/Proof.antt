@@ -1,50 +1,35 @@
--- Each way out has the tests that `kindOf` makes. Assumes nothing.
-use borrow.Author.Tests.{eq-eqb, ne-eqb}
+-- Each arm has the numbers that `kindOf` tests for, and the last arm none of them. Assumes nothing.
+use mathlib.Core.Logic.{inl, inr, ⊎-elim}
+use mathlib.Core.Path.{sym, ap}
+use borrow.Author.Tests.{ne-eqb}
 use Rattle.hdlc.specs.Kinds.{kindOf}
 use Rattle.hdlc.proofs.kind.kind_of.Statement.{statement}
 use Rattle.hdlc.proofs.kind.kind_of.Tie as tie
 
 returns : tie.Need-returns
 unfolding kindOf
-returns c = simp (eq-eqb _ _ (c .if1 .taken))
+returns c = sym (ap kindOf (c .match .keys1))
 
 returns-2 : tie.Need-returns-2
 unfolding kindOf
-returns-2 c = simp (ne-eqb _ _ (c .before .if1 .left), eq-eqb _ _ (c .if2 .taken))
+returns-2 c = sym (ap kindOf (c .match .keys2))
 
 returns-3 : tie.Need-returns-3
 unfolding kindOf
-returns-3 c = simp (ne-eqb _ _ (c .before .before .if1 .left), ne-eqb _ _ (c .before .if2 .left), eq-eqb _ _ (c .if3 .taken))
+returns-3 c = ⊎-elim (λ e. sym (ap kindOf e)) (⊎-elim (λ e. sym (ap kindOf e)) (λ e. sym (ap kindOf e))) (c .match .keys3)
 
 returns-4 : tie.Need-returns-4
 unfolding kindOf
 returns-4 c =
-    let t = c .before .before in
-    simp (ne-eqb _ _ (t .before .if1 .left), ne-eqb _ _ (t .if2 .left), ne-eqb _ _ (c .before .if3 .left), eq-eqb _ _ (c .if4 .taken))
-
-returns-5 : tie.Need-returns-5
-unfolding kindOf
-returns-5 c =
-    let t = c .before .before in
+    let b = c .before .args .octet in
+    let none = c .match .rest in
     simp (
-      ne-eqb _ _ (t .before .before .if1 .left),
-      ne-eqb _ _ (t .before .if2 .left),
-      ne-eqb _ _ (t .if3 .left),
-      ne-eqb _ _ (c .before .if4 .left),
-      eq-eqb _ _ (c .if5 .taken),
-    )
-
-returns-6 : tie.Need-returns-6
-unfolding kindOf
-returns-6 c =
-    let t = c .before .before in
-    simp (
-      ne-eqb _ _ (t .before .before .if1 .left),
-      ne-eqb _ _ (t .before .if2 .left),
-      ne-eqb _ _ (t .if3 .left),
-      ne-eqb _ _ (c .before .if4 .left),
-      ne-eqb _ _ (c .if5 .left),
+      ne-eqb b 0x7e (none .0 .0 .1),
+      ne-eqb b 0x7d (none .0 .1),
+      ne-eqb b 0x11 (λ e. none .1 (inl e)),
+      ne-eqb b 0x13 (λ e. none .1 (inr (inl e))),
+      ne-eqb b 0xf8 (λ e. none .1 (inr (inr e))),
     )
 
 pub kind-of-spec : {M : Type 1} → statement M
-kind-of-spec = tie.close (tie.spec returns returns-2 returns-3 returns-4 returns-5 returns-6)
+kind-of-spec = tie.close (tie.spec returns returns-2 returns-3 returns-4)

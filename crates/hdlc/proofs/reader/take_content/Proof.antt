@@ -1,7 +1,7 @@
 -- Each way out has the tests that `content` makes. Assumes nothing.
 use mathlib.Core.Path.{_∙_}
-use borrow.Author.Needs.{needs}
 use Rattle.hdlc.specs.Reading.{content}
+use borrow.Author.Needs.{needs}
 use Rattle.hdlc.proofs.reader.take_content.Statement.{statement}
 use Rattle.hdlc.proofs.reader.take_content.Tie as tie
 
@@ -21,9 +21,12 @@ returns-2 c =
     let t = c .before .before .before .before in
     c .before .before .gather-octet .ensures ∙ rw (t .before .if1 .left, t .if2 .taken)
 
+gathering-requires : tie.Need-gathering-requires
+gathering-requires c κs = search needs
+
 returns-3 : tie.Need-returns-3
 unfolding content
-returns-3 c = rw (c .before .before .if1 .left, c .before .if2 .left, c .if3 .taken)
+returns-3 c = rw (c .gathering .ensures, c .before .before .before .if1 .left, c .before .before .if2 .left, c .before .if3 .taken)
 
 gather-octet-requires-2 : tie.Need-gather-octet-requires-2
 gather-octet-requires-2 c κs = search needs
@@ -45,6 +48,7 @@ take-content-spec =
     gather-octet-requires
     same-length
     returns-2
+    gathering-requires
     returns-3
     gather-octet-requires-2
     same-length-2

@@ -1,14 +1,12 @@
 -- The invariant: what is read so far is the number of the part's octets from i on. Assumes nothing.
 use mathlib.Core.Path.{_≡_, ap, _∙_}
-use Prim.Native.Nat.{ℕ, _+_, _-_, _≤_, _<_, _^_}
+use Prim.Native.Nat.{_+_, _-_, _≤_, _<_, _^_}
 use native.Mathlib.Omega.{arith}
 use lib.ListN.{take, drop}
 use Rattle.octets.specs.LittleEndian.{le, leAt}
 use Rattle.octets.proofs.LawsLittleEndian.{le-none, le-small, le-step}
 use Rattle.octets.proofs.little_endian.read_le.Statement.{statement}
 use Rattle.octets.proofs.little_endian.read_le.Tie as tie
-use Rattle.octets.proofs.little_endian.read_le.Reads as reads
-use Rattle.octets.proofs.little_endian.read_le.Lts as lts
 
 abbrev Inv-loop : tie.InvT-loop
 Inv-loop octets at width n₀ i₀ n i = (i ≤ width) × (n ≡ le (drop i (take width (drop at octets))))

@@ -1,6 +1,6 @@
 -- The invariant: what is left, put at the place reached, gives the whole. Assumes nothing.
-use mathlib.Core.Path.{_≡_, refl, sym, ap, _∙_}
-use Prim.Native.Nat.{ℕ, _+_, _-_, _≤_}
+use mathlib.Core.Path.{_≡_, refl, sym, _∙_}
+use Prim.Native.Nat.{_+_, _-_, _≤_}
 use native.Mathlib.Omega.{arith}
 use native.Mathlib.Nat.{add-zero, sub-zero}
 use lib.ListN.{length, length-set}
@@ -9,8 +9,6 @@ use Rattle.octets.specs.LittleEndian.{leOctets}
 use Rattle.octets.proofs.LawsLittleEndian.{length-le, le-put, le-done}
 use Rattle.octets.proofs.little_endian.write_le.Statement.{statement}
 use Rattle.octets.proofs.little_endian.write_le.Tie as tie
-use Rattle.octets.proofs.little_endian.write_le.Reads as reads
-use Rattle.octets.proofs.little_endian.write_le.Lts as lts
 
 abbrev Inv-loop : tie.InvT-loop
 Inv-loop out₀ at n width rest₀ i₀ out rest i =

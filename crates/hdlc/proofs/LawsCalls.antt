@@ -1,0 +1,147 @@
+-- One call, told by the octets that it read. Assumes nothing.
+use mathlib.Core.Bool.{true, false, cond, true≢false, false≢true}
+use mathlib.Core.Logic.{_⊎_, inl, inr, ⊎-elim}
+use mathlib.Core.Path.{_≡_, refl, sym, ap, _∙_}
+use mathlib.Core.List.{List, [], _∷_, _++_, append-nil}
+use Prim.Native.Nat.{ℕ, suc, _-_, _/_, _≤_}
+use native.Mathlib.Omega.{arith}
+use native.Mathlib.Numerals.{one-add}
+use borrow.Author.Tests.{ltb-false}
+use lib.Dec.{ltb, eqb}
+use lib.ListN.{length, getD}
+use lib.Seq.{take-append-le}
+use Rattle.octets.proofs.LawsRuns.{each-append}
+use Rattle.octets.proofs.LawsTests.{by-test}
+use Rattle.hdlc.specs.declared.kind.Kind.{Kind}
+use Rattle.hdlc.specs.declared.kind.Kind.the-variants.{Flag, Escape, Skipped, Plain}
+use Rattle.hdlc.specs.declared.reader.Fate.the-variants.{Unfinished}
+use Rattle.hdlc.specs.Fcs.{fcs}
+use Rattle.hdlc.specs.Kinds.{kindOf}
+use Rattle.hdlc.specs.Reading.{decided, bodyOf, checkOf, judged, mostGathered, fresh, Held, held, run}
+use Rattle.hdlc.specs.Wire.{kept, gathered, cutEscape, verdict, endsAs, growsAs, ended, grown, finished, unfinished, told, verdicts, Call, verdictAs, verdictAt, call, callReads}
+use Rattle.hdlc.specs.States.{readerAfter, over, holding, closed}
+use Rattle.hdlc.proofs.LawsStates.{over-few, over-length, decides-flag}
+use Rattle.hdlc.proofs.ClosedForm.{call-closed}
+
+-- ---- the octets that a call read
+
+-- the verdict of the piece that an octet ends
+told-ends : (p : List ℕ) (b : ℕ) → verdicts (ended p b) ≡ told (verdictAt p b) (gathered p)
+unfolding verdicts ended verdictAt told
+told-ends p b = by-kind (kindOf b)
+  where
+    by-kind : (k : Kind) → verdicts (endsAs k p) ≡ told (verdictAs k p) (gathered p)
+    by-kind Flag = append-nil (told (verdict p) (gathered p))
+    by-kind Escape = refl
+    by-kind Skipped = refl
+    by-kind Plain = refl
+
+-- what a call read finishes the piece with its fate, if any, and leaves the piece that it ended in or nothing
+pub record Reads (p xs : List ℕ) : Type 0 where
+  pub tells : verdicts (finished p (callReads p xs)) ≡ told (call p xs .fate) (gathered (call p xs .state))
+  pub leaves : unfinished p (callReads p xs) ≡ cond (decided (call p xs .fate)) [] (call p xs .state)
+
+pub reads : (xs p : List ℕ) → Reads p xs
+unfolding callReads call finished unfinished grown verdicts told
+reads [] p = record { tells = refl; leaves = refl }
+reads (b ∷ bs) p =
+    by-test (decided (verdictAt p b))
+    (λ t.
+    record {
+      tells = simp t (ap verdicts (append-nil (ended p b)) ∙ told-ends p b ∙ simp t);
+      leaves = simp t (ap (λ k. growsAs k p b) (decides-flag p b t));
+    })
+    (λ t.
+    let rest = reads bs (grown p b) in
+    let none : verdicts (ended p b) ≡ [] = told-ends p b ∙ simp t in
+    record {
+      tells = simp (t, one-add) (each-append _ (ended p b) _ ∙ ap (λ l. l ++ verdicts (finished (grown p b) (callReads (grown p b) bs))) none ∙ rest .tells);
+      leaves = simp (t, one-add) (rest .leaves);
+    })
+
+-- ---- the body stands first in the buffer
+
+-- a call's fate is that of the piece that it ended in, if it has one
+call-verdict : (xs p : List ℕ) → (call p xs .fate ≡ Unfinished) ⊎ (call p xs .fate ≡ verdict (call p xs .state))
+unfolding call verdictAt
+call-verdict [] p = inl refl
+call-verdict (b ∷ bs) p =
+    by-test (decided (verdictAt p b)) (λ t. simp t (inr (ap (λ k. verdictAs k p) (decides-flag p b t)))) (λ t. simp t (call-verdict bs (grown p b)))
+
+told-judged : (g xs : List ℕ) → told (judged g) (g ++ xs) ≡ told (judged g) g
+unfolding told judged
+told-judged g xs =
+    by-test (ltb (length g) 4) (λ t. simp t)
+    (λ t. simp t
+    (by-test (eqb (checkOf g) (fcs (bodyOf g)))
+    (λ u. simp u
+    (by-test (eqb (getD g 0 0 / 64) 2)
+    (λ v. simp v (ap (λ l. record { number = 1; body = l } ∷ []) (take-append-le (length g - 2) g xs (omega arith))))
+    (λ v. simp v)))
+    (λ u. simp u)))
+
+told-over : (p a : List ℕ) → told (verdict p) (over (gathered p) a) ≡ told (verdict p) (gathered p)
+unfolding verdict told
+told-over p a =
+    by-test (ltb mostGathered (length (gathered p))) (λ t. simp t)
+    (λ t. simp t
+    (by-test (cutEscape p) (λ u. simp u)
+    (λ u. simp u
+    (by-test (eqb (length (gathered p)) 0) (λ v. simp v)
+    (λ v. simp v
+    (ap (told (judged (gathered p))) (over-few (gathered p) a (ltb-false _ _ t)) ∙ told-judged (gathered p) _))))))
+
+pub told-call : (p a xs : List ℕ) → told (call p xs .fate) (over (gathered (call p xs .state)) a) ≡ told (call p xs .fate) (gathered (call p xs .state))
+unfolding told
+told-call p a xs =
+    let q = call p xs .state in
+    ⊎-elim (λ e. ap (λ f. told f (over (gathered q) a)) e ∙ sym (ap (λ f. told f (gathered q)) e))
+    (λ e. ap (λ f. told f (over (gathered q) a)) e ∙ told-over q a ∙ sym (ap (λ f. told f (gathered q)) e)) (call-verdict xs p)
+
+-- ---- what a call leaves
+
+-- a reader after a piece, over some buffer with room: its gathered octets stand at the front of the assembly buffer
+pub record After (p : List ℕ) (h : Held) : Type 0 where
+  pub under : List ℕ
+  pub room : mostGathered ≤ length under
+  pub state : h ≡ holding p under
+
+decided-state : (c : Call) (a : List ℕ) → decided (c .fate) ≡ true → closed c a .state ≡ holding [] (over (gathered (c .state)) a)
+unfolding closed holding readerAfter gathered cutEscape kept over
+decided-state c a t = ap (λ z. held (cond z fresh (readerAfter (c .state))) (over (gathered (c .state)) a)) t
+
+undecided-state : (c : Call) (a : List ℕ) → decided (c .fate) ≡ false → closed c a .state ≡ holding (c .state) a
+unfolding closed holding
+undecided-state c a t = ap (λ z. held (cond z fresh (readerAfter (c .state))) (over (gathered (c .state)) a)) t
+
+pub after-call : (p a xs : List ℕ) → mostGathered ≤ length a → After (unfinished p (callReads p xs)) (run (holding p a) xs .state)
+after-call p a xs room =
+    let c = call p xs in
+    let q = c .state in
+    let left = reads xs p .leaves in
+    let is = ap (λ o. o .state) (call-closed xs p a room) in
+    by-test (decided (c .fate))
+    (λ t. record {
+      under = over (gathered q) a;
+      room = rw (over-length (gathered q) a room) room;
+      state = is ∙ decided-state c a t ∙ ap (λ z. holding z (over (gathered q) a)) (sym (left ∙ simp t));
+    })
+    (λ t. record { under = a; room = room; state = is ∙ undecided-state c a t ∙ ap (λ z. holding z a) (sym (left ∙ simp t)) })
+
+pub closed-told : (c : Call) (a : List ℕ) → told (closed c a .fate) (closed c a .state .assembly) ≡ told (c .fate) (over (gathered (c .state)) a)
+unfolding closed
+closed-told c a = refl
+
+-- ---- how much it reads
+
+-- a call that gives no fate reads all, and one that gives a fate reads an octet at least
+pub reads-all : (xs p : List ℕ) → decided (call p xs .fate) ≡ false → call p xs .read ≡ length xs
+unfolding call
+reads-all [] p = λ e. refl
+reads-all (b ∷ bs) p =
+    by-test (decided (verdictAt p b)) (λ t. simp t (λ e. absurd (true≢false e))) (λ t. simp (t, one-add) (λ e. ap suc (reads-all bs (grown p b) e)))
+
+pub reads-some : (xs p : List ℕ) → decided (call p xs .fate) ≡ true → (1 ≤ call p xs .read) × (1 ≤ length xs)
+unfolding call
+reads-some [] p = λ e. absurd (false≢true e)
+reads-some (b ∷ bs) p = by-test (decided (verdictAt p b)) (λ t. simp t (λ e. omega arith)) (λ t. simp t (λ e. omega arith))
