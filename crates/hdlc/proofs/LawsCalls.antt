@@ -3,23 +3,22 @@ use mathlib.Core.Bool.{true, false, cond, true≢false, false≢true}
 use mathlib.Core.Logic.{_⊎_, inl, inr, ⊎-elim}
 use mathlib.Core.Path.{_≡_, refl, sym, ap, _∙_}
 use mathlib.Core.List.{List, [], _∷_, _++_, append-nil}
-use Prim.Native.Nat.{ℕ, suc, _-_, _/_, _≤_}
+use Prim.Native.Nat.{ℕ, suc, _≤_}
 use native.Mathlib.Omega.{arith}
 use native.Mathlib.Numerals.{one-add}
 use borrow.Author.Tests.{ltb-false}
 use lib.Dec.{ltb, eqb}
-use lib.ListN.{length, getD}
-use lib.Seq.{take-append-le}
+use lib.ListN.{length}
 use Rattle.octets.proofs.LawsRuns.{each-append}
 use Rattle.octets.proofs.LawsTests.{by-test}
 use Rattle.hdlc.specs.declared.kind.Kind.{Kind}
 use Rattle.hdlc.specs.declared.kind.Kind.the-variants.{Flag, Escape, Skipped, Plain}
 use Rattle.hdlc.specs.declared.reader.Fate.the-variants.{Unfinished}
-use Rattle.hdlc.specs.Fcs.{fcs}
 use Rattle.hdlc.specs.Kinds.{kindOf}
-use Rattle.hdlc.specs.Reading.{decided, bodyOf, checkOf, judged, mostGathered, fresh, Held, held, run}
+use Rattle.hdlc.specs.Reading.{decided, judged, mostGathered, fresh, Held, held, run}
 use Rattle.hdlc.specs.Wire.{kept, gathered, cutEscape, verdict, endsAs, growsAs, ended, grown, finished, unfinished, told, verdicts, Call, verdictAs, verdictAt, call, callReads}
 use Rattle.hdlc.specs.States.{readerAfter, over, holding, closed}
+use Rattle.hdlc.proofs.LawsFates.{told-judged}
 use Rattle.hdlc.proofs.LawsStates.{over-few, over-length, decides-flag}
 use Rattle.hdlc.proofs.ClosedForm.{call-closed}
 
@@ -67,18 +66,6 @@ unfolding call verdictAt
 call-verdict [] p = inl refl
 call-verdict (b ∷ bs) p =
     by-test (decided (verdictAt p b)) (λ t. simp t (inr (ap (λ k. verdictAs k p) (decides-flag p b t)))) (λ t. simp t (call-verdict bs (grown p b)))
-
-told-judged : (g xs : List ℕ) → told (judged g) (g ++ xs) ≡ told (judged g) g
-unfolding told judged
-told-judged g xs =
-    by-test (ltb (length g) 4) (λ t. simp t)
-    (λ t. simp t
-    (by-test (eqb (checkOf g) (fcs (bodyOf g)))
-    (λ u. simp u
-    (by-test (eqb (getD g 0 0 / 64) 2)
-    (λ v. simp v (ap (λ l. record { number = 1; body = l } ∷ []) (take-append-le (length g - 2) g xs (omega arith))))
-    (λ v. simp v)))
-    (λ u. simp u)))
 
 told-over : (p a : List ℕ) → told (verdict p) (over (gathered p) a) ≡ told (verdict p) (gathered p)
 unfolding verdict told

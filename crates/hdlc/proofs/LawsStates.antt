@@ -2,23 +2,23 @@
 use mathlib.Core.Bool.{Bool, true, false, cond, true≢false, false≢true}
 use mathlib.Core.Path.{_≡_, refl, sym, ap, ap₂, _∙_}
 use mathlib.Core.List.{List, [], _∷_, _++_, append-assoc, append-nil}
-use Prim.Native.Nat.{ℕ, suc, _+_, _/_, _≤_, _<_}
+use Prim.Native.Nat.{ℕ, suc, _+_, _≤_, _<_}
 use native.Mathlib.Omega.{arith}
 use native.Mathlib.Numerals.{add-one}
 use borrow.Author.Tests.{ltb-true, ltb-false, eqb-true, lt-ltb, le-ltb}
 use lib.Dec.{ltb, eqb}
 use lib.Bits.{bitXor}
-use lib.ListN.{length, getD, take, drop, set, length-append, length-drop, length-take}
+use lib.ListN.{length, take, drop, set, length-append, length-drop, length-take}
 use lib.Seq.{take-all, take-append-le, take-append-seam, set-at, drop-cons}
 use Rattle.octets.proofs.LawsTests.{by-test}
 use Rattle.hdlc.specs.declared.kind.Kind.{Kind}
 use Rattle.hdlc.specs.declared.kind.Kind.the-variants.{Flag, Escape, Skipped, Plain}
 use Rattle.hdlc.specs.declared.reader.Fate.the-variants.{Unfinished, CutEscape}
-use Rattle.hdlc.specs.Fcs.{fcs}
 use Rattle.hdlc.specs.Kinds.{kindOf}
-use Rattle.hdlc.specs.Reading.{decided, bodyOf, checkOf, judged, mostGathered, gathering, overlong, fresh, Held, held, gather, content, afterKind, after, flagFate, fateKind, fateAt}
+use Rattle.hdlc.specs.Reading.{decided, judged, mostGathered, gathering, overlong, fresh, Held, held, gather, content, afterKind, after, flagFate, fateKind, fateAt}
 use Rattle.hdlc.specs.Wire.{keptAs, kept, gathered, cutEscape, verdict, growsAs, grown, verdictAs, verdictAt}
 use Rattle.hdlc.specs.States.{readerAfter, over, holding}
+use Rattle.hdlc.proofs.LawsFates.{judged-decided}
 use Rattle.hdlc.proofs.LawsPieces.{Adds, gathered-append, skipped-adds, escaped-adds, escape-adds, plain-adds}
 
 -- ---- gathered octets over a buffer
@@ -143,13 +143,6 @@ decides-flag p b = by-kind (kindOf b)
     by-kind Escape d = absurd (false≢true d)
     by-kind Skipped d = absurd (false≢true d)
     by-kind Plain d = absurd (false≢true d)
-
-judged-decided : (g : List ℕ) → decided (judged g) ≡ true
-unfolding judged
-judged-decided g =
-    by-test (ltb (length g) 4) (λ t. simp t)
-    (λ t. simp t
-    (by-test (eqb (checkOf g) (fcs (bodyOf g))) (λ u. simp u (by-test (eqb (getD g 0 0 / 64) 2) (λ v. simp v) (λ v. simp v))) (λ u. simp u)))
 
 -- a flag that decides nothing ends a piece that stands for nothing
 pub undecided-empty : (p : List ℕ) → decided (verdict p) ≡ false → gathered p ≡ []

@@ -1,5 +1,6 @@
 pub mod LawsFcs
 pub mod LawsFrame
+pub mod LawsFates
 pub mod LawsReading
 pub mod LawsPieces
 pub mod LawsStates

@@ -4,11 +4,10 @@
 use mathlib.Core.Bool.{true, false, cond}
 use mathlib.Core.Path.{_≡_, refl, sym, ap, _∙_}
 use mathlib.Core.List.{List, [], _∷_, _++_, append-nil, append-assoc}
-use Prim.Native.Nat.{ℕ, suc, _+_, _/_, _≤_}
+use Prim.Native.Nat.{ℕ, suc, _+_, _≤_}
 use native.Mathlib.Omega.{arith}
-use lib.Dec.{eqb}
-use lib.ListN.{length, getD, take, drop, drop-of-length-le}
-use lib.Seq.{take-length, drop-length, take-append-seam}
+use lib.ListN.{length, drop, drop-of-length-le}
+use lib.Seq.{drop-length}
 use Rattle.octets.specs.Octets.{Octets}
 use Rattle.octets.specs.LittleEndian.{leOctets}
 use Rattle.octets.proofs.LawsTests.{by-test}
@@ -19,7 +18,8 @@ use Rattle.hdlc.specs.Frame.{Body, checked, frame}
 use Rattle.hdlc.specs.Reading.{decided, headed, mostGathered, fresh, Held, held, after, afterKind, flagFate, fateKind, fateAt, Outcome, outcome, later, run}
 use Rattle.hdlc.specs.Wire.{Verdict, told}
 use Rattle.hdlc.specs.Histories.{callsTell, callsLeave, offers, offered}
-use Rattle.hdlc.proofs.RoundTrip.{headed-decided, round-trip}
+use Rattle.hdlc.proofs.LawsFates.{headed-decided, told-headed}
+use Rattle.hdlc.proofs.RoundTrip.{round-trip}
 
 -- what 7E and a body's frame give
 pub record Resynchronized (r : Reader) (a body : List ℕ) : Type 0 where
@@ -61,13 +61,8 @@ module _ (r : Reader) (a body : List ℕ) (room : mostGathered ≤ length a) (si
   read-frame = outcome (headed body) (length (frame body)) fresh (checked body ++ drop (length body + 2) a)
 
   told-frame : told (headed body) (checked body ++ drop (length body + 2) a) ≡ told (headed body) body
-  unfolding told headed checked
-  told-frame =
-      by-test (eqb (getD body 0 0 / 64) 2)
-      (λ t. simp t (ap (λ l. record { number = 1; body = l } ∷ []) (front ∙ sym (take-length body)))) (λ t. simp t)
-    where
-      front : take (length body) ((body ++ leOctets 2 (fcs body)) ++ drop (length body + 2) a) ≡ body
-      front = ap (take (length body)) (append-assoc body (leOctets 2 (fcs body)) (drop (length body + 2) a)) ∙ take-append-seam body _
+  unfolding checked
+  told-frame = ap (told (headed body)) (append-assoc body (leOctets 2 (fcs body)) (drop (length body + 2) a)) ∙ told-headed body _
 
   -- what was open has a fate: the flag ends a call
   decided-first : decided (flagFate (held r a)) ≡ true → run (held r a) (0x7e ∷ frame body) ≡ outcome (flagFate (held r a)) 1 fresh a

@@ -1,27 +1,24 @@
 -- PROMISE: a frame that was written is read back. A fresh reader with any assembly buffer of 1,302 octets or more reads a body's frame to
 -- its last flag, with fate 1 where the top two header bits are 10 and fate 6 where not, and leaves body and check at the front of the
 -- buffer. Assumes nothing.
-use mathlib.Core.Bool.{true, cond}
-use mathlib.Core.Path.{_≡_, refl, sym, ap, ap₂, _∙_}
+use mathlib.Core.Path.{_≡_, refl, sym, ap, _∙_}
 use mathlib.Core.List.{List, [], _∷_, _++_}
-use Prim.Native.Nat.{ℕ, suc, _+_, _-_, _/_, _≤_}
+use Prim.Native.Nat.{ℕ, suc, _+_, _-_, _≤_}
 use native.Mathlib.Omega.{arith}
 use borrow.Author.Tests.{le-ltb, eq-eqb, ne-eqb}
-use lib.Dec.{eqb}
-use lib.ListN.{length, getD, take, drop, length-append, List·getD-append}
+use lib.ListN.{length, take, drop, length-append}
 use lib.Seq.{take-at, drop-at, take-all}
 use Rattle.octets.specs.Octets.{Octets}
 use Rattle.octets.specs.LittleEndian.{le, leAt, leOctets}
 use Rattle.octets.proofs.LawsLittleEndian.{length-le}
 use Rattle.octets.proofs.LittleEndianRoundTrip.{number-back}
-use Rattle.octets.proofs.LawsTests.{by-test}
-use Rattle.hdlc.specs.declared.reader.Fate.the-variants.{Checked, BadHeader}
 use Rattle.hdlc.specs.Fcs.{fcs}
 use Rattle.hdlc.specs.Kinds.{kindOf}
 use Rattle.hdlc.specs.Frame.{Body, stuffed, checked, frame}
-use Rattle.hdlc.specs.Reading.{later, decided, bodyOf, checkOf, judged, headed, mostGathered, fresh, held, outcome, run}
+use Rattle.hdlc.specs.Reading.{later, bodyOf, checkOf, judged, headed, mostGathered, fresh, held, outcome, run}
 use Rattle.hdlc.specs.Wire.{kept, gathered, cutEscape, verdict, grown, verdictAt, call}
 use Rattle.hdlc.specs.States.{readerAfter, over, holding, closed}
+use Rattle.hdlc.proofs.LawsFates.{headed-decided}
 use Rattle.hdlc.proofs.LawsFcs.{fcs-bound}
 use Rattle.hdlc.proofs.LawsFrame.{checked-length}
 use Rattle.hdlc.proofs.LawsStuffing.{stuffed-gives, stuffed-passed}
@@ -32,10 +29,6 @@ use Rattle.hdlc.proofs.ClosedForm.{call-closed}
 first-flag : (xs : List ℕ) → call [] (0x7e ∷ xs) ≡ later 1 (call [] xs)
 unfolding call verdictAt verdict grown kindOf gathered cutEscape kept
 first-flag xs = refl
-
-pub headed-decided : (body : List ℕ) → decided (headed body) ≡ true
-unfolding headed
-headed-decided body = by-test (eqb (getD body 0 0 / 64) 2) (λ t. simp t) (λ t. simp t)
 
 module _ (body : List ℕ) (size : Body body) (octets : Octets body) where
   checked-body : bodyOf (checked body) ≡ body
@@ -49,18 +42,14 @@ module _ (body : List ℕ) (size : Body body) (octets : Octets body) where
       ∙ ap le (take-all 2 (leOctets 2 (fcs body)) (omega (arith, length-le 2 (fcs body))))
       ∙ number-back 2 (fcs body) (fcs-bound body octets)
 
-  checked-first : getD (checked body) 0 0 ≡ getD body 0 0
-  unfolding checked
-  checked-first = List·getD-append body (leOctets 2 (fcs body)) 0 0 (omega (arith, size .0))
-
   checked-judged : judged (checked body) ≡ headed body
-  unfolding judged headed
+  unfolding judged
   checked-judged =
       simp (
         le-ltb (length (checked body)) 4 (omega (arith, checked-length body, size .0)),
         eq-eqb (checkOf (checked body)) (fcs (bodyOf (checked body))) (checked-check ∙ ap fcs (sym checked-body)),
       )
-      (ap₂ (λ b n. cond (eqb (b / 64) 2) (Checked n) BadHeader) checked-first (omega (arith, checked-length body)))
+      (ap headed checked-body)
 
   frame-verdict : verdict (stuffed (checked body)) ≡ headed body
   unfolding verdict

@@ -43,15 +43,13 @@ bodyOf g = take (length g - 2) g
 unfoldable pub checkOf : List ℕ → ℕ
 checkOf g = leAt g (length g - 2) 2
 
--- fates 2, 3 and 6 in this order, else 1
-unfoldable pub judged : List ℕ → Fate
-judged g =
-    cond (ltb (length g) 4) Short
-    (cond (eqb (checkOf g) (fcs (bodyOf g))) (cond (eqb (getD g 0 0 / 64) 2) (Checked (length g - 2)) BadHeader) WrongCheck)
-
--- the fate of a body whose check was right: 6, else 1
+-- the fate of a body whose check is right: 6, else 1
 unfoldable pub headed : List ℕ → Fate
 headed body = cond (eqb (getD body 0 0 / 64) 2) (Checked (length body)) BadHeader
+
+-- the fate of gathered octets: 2, 3 and 6 in this order, else 1
+unfoldable pub judged : List ℕ → Fate
+judged g = cond (ltb (length g) 4) Short (cond (eqb (checkOf g) (fcs (bodyOf g))) (headed (bodyOf g)) WrongCheck)
 
 -- ---- states
 

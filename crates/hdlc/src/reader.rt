@@ -10,14 +10,21 @@ ghost use lib.ListN.{length};
 ghost use Rattle.hdlc.specs.Reading.{mostGathered, gathering, fresh, held, outcome, judged, flagFate, gather, content, after, fateAt, decided, run};
 ghost use Rattle.hdlc.specs.Rules.{rules};
 
-// What became of a frame: fates 0 to 6 of 01, in the order of their numbers. A checked frame's body has so many octets.
+// What became of a frame, with 01's number of each fate.
 pub enum Fate {
+    // 0: the input ended and no frame is finished.
     Unfinished,
+    // 1: the check is right and the header Spinel's. The body has so many octets, from the front of the assembly buffer.
     Checked(usize),
+    // 2: fewer than four octets gathered.
     Short,
+    // 3: the check is not that of the body.
     WrongCheck,
+    // 4: more than 1,302 octets gathered.
     TooLong,
+    // 5: a flag after a pending escape.
     CutEscape,
+    // 6: the top two header bits are not 10.
     BadHeader,
 }
 

@@ -7,6 +7,7 @@ use lib.Dec.{eqb}
 use lib.Seq.{length-take-le}
 use Rattle.hdlc.specs.Fcs.{fcs}
 use Rattle.hdlc.specs.Reading.{bodyOf, checkOf, judged}
+use Rattle.hdlc.proofs.LawsFates.{headed-gathered}
 use Rattle.hdlc.proofs.reader.judge.Statement.{statement}
 use Rattle.hdlc.proofs.reader.judge.Tie as tie
 
@@ -56,6 +57,7 @@ returns-3 c =
       le-ltb _ _ (known .before .before .before .if1 .left),
       same-test known,
       eq-eqb _ _ (c .before .before .if2 .left),
+      headed-gathered _ (known .before .before .before .if1 .left),
       ne-eqb _ _ (c .if3 .taken),
     )
 
@@ -67,6 +69,7 @@ returns-4 c =
       le-ltb _ _ (known .before .before .before .if1 .left),
       same-test known,
       eq-eqb _ _ (c .before .before .if2 .left),
+      headed-gathered _ (known .before .before .before .if1 .left),
       eq-eqb _ _ (c .if3 .left),
     )
 

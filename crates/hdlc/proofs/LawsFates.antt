@@ -1,0 +1,53 @@
+-- Laws of the fates of gathered octets. Assumes nothing.
+use mathlib.Core.Bool.{true, cond}
+use mathlib.Core.Path.{_≡_, sym, ap, ap₂, subst, _∙_}
+use mathlib.Core.List.{List, [], _∷_, _++_, append-assoc}
+use Prim.Native.Nat.{ℕ, _-_, _/_, _≤_}
+use native.Mathlib.Omega.{arith}
+use lib.Dec.{ltb, eqb}
+use lib.ListN.{length, getD, drop, take-append-drop}
+use lib.Seq.{length-take-le, take-length, take-append-seam, getD-take}
+use Rattle.octets.proofs.LawsTests.{by-test}
+use Rattle.hdlc.specs.declared.reader.Fate.the-variants.{Checked, BadHeader}
+use Rattle.hdlc.specs.Fcs.{fcs}
+use Rattle.hdlc.specs.Reading.{decided, bodyOf, checkOf, headed, judged}
+use Rattle.hdlc.specs.Wire.{told}
+
+-- the header is the first octet gathered, and the body all but the last two
+pub headed-gathered : (g : List ℕ) → 4 ≤ length g → headed (bodyOf g) ≡ cond (eqb (getD g 0 0 / 64) 2) (Checked (length g - 2)) BadHeader
+unfolding headed bodyOf
+headed-gathered g long =
+    ap₂ (λ b n. cond (eqb (b / 64) 2) (Checked n) BadHeader) (getD-take (length g - 2) g 0 0 (omega arith))
+    (length-take-le (length g - 2) g (omega arith))
+
+pub headed-decided : (body : List ℕ) → decided (headed body) ≡ true
+unfolding headed
+headed-decided body = by-test (eqb (getD body 0 0 / 64) 2) (λ t. simp t) (λ t. simp t)
+
+pub judged-decided : (g : List ℕ) → decided (judged g) ≡ true
+unfolding judged
+judged-decided g =
+    by-test (ltb (length g) 4) (λ t. simp t)
+    (λ t. simp t (by-test (eqb (checkOf g) (fcs (bodyOf g))) (λ u. simp u (headed-decided (bodyOf g))) (λ u. simp u)))
+
+-- of a body that stands first, what follows it does not matter
+pub told-headed : (body xs : List ℕ) → told (headed body) (body ++ xs) ≡ told (headed body) body
+unfolding told headed
+told-headed body xs =
+    by-test (eqb (getD body 0 0 / 64) 2)
+    (λ t. simp t (ap (λ l. record { number = 1; body = l } ∷ []) (take-append-seam body xs ∙ sym (take-length body)))) (λ t. simp t)
+
+front : (g xs : List ℕ) → told (headed (bodyOf g)) (g ++ xs) ≡ told (headed (bodyOf g)) g
+unfolding bodyOf
+front g xs =
+    let body = bodyOf g in
+    let rest = drop (length g - 2) g in
+    let same : told (headed body) ((body ++ rest) ++ xs) ≡ told (headed body) (body ++ rest) =
+    ap (told (headed body)) (append-assoc body rest xs) ∙ told-headed body (rest ++ xs) ∙ sym (told-headed body rest) in
+    subst (λ l. told (headed body) (l ++ xs) ≡ told (headed body) l) (take-append-drop (length g - 2) g) same
+
+pub told-judged : (g xs : List ℕ) → told (judged g) (g ++ xs) ≡ told (judged g) g
+unfolding told judged
+told-judged g xs =
+    by-test (ltb (length g) 4) (λ t. simp t)
+    (λ t. simp t (by-test (eqb (checkOf g) (fcs (bodyOf g))) (λ u. simp u (front g xs)) (λ u. simp u)))
