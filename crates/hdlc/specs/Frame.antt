@@ -10,7 +10,7 @@ use Rattle.hdlc.specs.declared.kind.Kind.the-variants.{Flag, Escape, Ski
 use Rattle.hdlc.specs.Kinds.{kindOf}
 use Rattle.hdlc.specs.Fcs.{fcs}
 
--- "bodies have 2 to 1,300 octets"
+-- "Bodies have 2 to 1,300 octets"
 abbrev pub Body : List ℕ → Type 0
 Body body = (2 ≤ length body) × (length body ≤ 1300)
 

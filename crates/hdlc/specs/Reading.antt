@@ -65,7 +65,7 @@ gathering n e = record { count = n; escaped = e; discarding = false }
 abbrev pub overlong : Reader
 overlong = record { count = mostGathered; escaped = false; discarding = true }
 
--- "a fresh reader stands as if a flag had just passed"
+-- "A fresh reader stands as if a flag had just passed"
 abbrev pub fresh : Reader
 fresh = gathering 0 false
 
@@ -79,20 +79,21 @@ held r a = record { reader = r; assembly = a }
 
 -- ---- one octet
 
--- an octet is gathered; "the 1,303rd makes the frame too long, and all until the next flag is thrown away"
+-- an octet is gathered; "The 1,303rd makes the frame too long, and all until the next flag is thrown away"
 unfoldable pub gather : Held → ℕ → Held
 gather h b =
     cond (ltb (h .reader .count) mostGathered)
     (held (gathering (h .reader .count + 1) false) (set (h .assembly) (h .reader .count) b)) (held overlong (h .assembly))
 
--- an octet that is neither a flag nor skipped, and whether it is the escape; "after an escape any other octet is taken xor 0x20"
+-- an octet that is neither a flag nor skipped, and whether it is the escape;
+-- "After an escape any other octet except a flag is taken xor 0x20"
 unfoldable pub content : Held → Bool → ℕ → Held
 content h isEscape b =
     cond (h .reader .discarding) h
     (cond (h .reader .escaped) (gather h (bitXor b 0x20))
     (cond isEscape (held (gathering (h .reader .count) true) (h .assembly)) (gather h b)))
 
--- "after any flag the reader is fresh again"; 11, 13 and F8 are skipped "wherever they stand, also after an escape"
+-- "After any flag the reader is fresh again"; 11, 13 and F8 are skipped "wherever they stand, also after an escape"
 unfoldable pub afterKind : Held → Kind → ℕ → Held
 afterKind h Flag b = held fresh (h .assembly)
 afterKind h Skipped b = h
@@ -102,7 +103,7 @@ afterKind h Plain b = content h false b
 unfoldable pub after : Held → ℕ → Held
 after h b = afterKind h (kindOf b) b
 
--- at a flag: fates 4 and 5, none where nothing is gathered, then 2, 3, 6 and 1
+-- at a flag: fates 4 and 5, then none where nothing is gathered ("is no frame and has no fate"), then 2, 3, 6 and 1
 unfoldable pub flagFate : Held → Fate
 flagFate h =
     cond (h .reader .discarding) TooLong
@@ -138,7 +139,7 @@ Outcome = Read Held
 abbrev pub outcome : Fate → ℕ → Reader → List ℕ → Outcome
 outcome f n r a = record { fate = f; read = n; state = held r a }
 
--- "one call reads lent input until the first frame has its fate, or the input ends"; the flag is read too
+-- "One call reads lent input until the first frame has its fate, or the input ends"; the flag is read too
 unfoldable pub run : Held → List ℕ → Outcome
 run h [] = record { fate = Unfinished; read = 0; state = h }
 run h (b ∷ bs) =

@@ -12,7 +12,7 @@ use Rattle.hdlc.specs.Wire.{gathered, cutEscape, Call}
 unfoldable pub readerAfter : List ℕ → Reader
 readerAfter p = cond (ltb mostGathered (length (gathered p))) overlong (gathering (length (gathered p)) (cutEscape p))
 
--- "gathered octets fill the assembly buffer from its front; its other octets keep what they held"
+-- "Gathered octets fill the assembly buffer from its front; its other octets .. keep what they held"
 unfoldable pub over : List ℕ → List ℕ → List ℕ
 over g a = take mostGathered g ++ drop (length (take mostGathered g)) a
 

@@ -47,13 +47,13 @@ gathered p = emitted meant pends false (kept p)
 unfoldable pub cutEscape : List ℕ → Bool
 cutEscape p = foldl pends false (kept p)
 
--- "fates are tried in the order 4, 5, 2, 3, 6"; an empty piece has none
+-- "Fates are tried in the order 4, 5, 2, 3, 6"; an empty piece has none
 unfoldable pub verdict : List ℕ → Fate
 verdict p =
     cond (ltb mostGathered (length (gathered p))) TooLong
     (cond (cutEscape p) CutEscape (cond (eqb (length (gathered p)) 0) Unfinished (judged (gathered p))))
 
--- ---- the wire, "cut at the flags; what follows the last is unfinished"
+-- ---- the wire: "Cut this at the flags; what follows the last is unfinished"
 
 -- the piece that an octet ends, if any, and the piece that is open after it
 abbrev pub endsAs : Kind → List ℕ → List (List ℕ)
@@ -128,6 +128,6 @@ call p (b ∷ bs) = cond (decided (verdictAt p b)) (record { fate = verdictAt p 
 unfoldable pub callReads : List ℕ → List ℕ → List ℕ
 callReads p xs = take (call p xs .read) xs
 
--- "lay end to end what the calls read"; each goes on with the piece that the last one left
+-- "Lay end to end what the unrefused calls read"; each goes on with the piece that the last one left
 unfoldable pub wire : List ℕ → List (List ℕ) → List ℕ
 wire p xss = emitted callReads (λ q xs. unfinished q (callReads q xs)) p xss

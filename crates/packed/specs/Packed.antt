@@ -21,7 +21,7 @@ unfoldable pub joined : ℕ → ℕ → Packed → Packed
 joined low scale Unreadable = Unreadable
 joined low scale (Number n next) = cond (eqb n 0) Unreadable (Number (low + scale * n) next)
 
--- the number in at most so many octets, which stand from a place on
+-- the number in at most so many octets, which stand from a place on; none where they run out, or where there would be one more
 unfoldable pub numberIn : ℕ → ℕ → List ℕ → Packed
 numberIn zero at xs = Unreadable
 numberIn (suc most) at [] = Unreadable
