@@ -1,23 +1,17 @@
 -- PROMISE: a body of n octets takes at least n + 4 and at most 2 n + 6 octets framed (01, Octets on the wire). Assumes nothing.
+use mathlib.Core.Bool.{_||_}
 use mathlib.Core.List.{List, [], _∷_}
 use Prim.Native.Nat.{ℕ, _+_, _*_, _≤_}
 use native.Mathlib.Omega.{arith}
 use lib.ListN.{length, length-append}
-use Rattle.hdlc.specs.declared.kind.Kind.{Kind}
-use Rattle.hdlc.specs.declared.kind.Kind.the-variants.{Flag, Escape, Skipped, Plain}
-use Rattle.hdlc.specs.Kinds.{kindOf}
-use Rattle.hdlc.specs.Frame.{sentAs, sent, stuffed, checked, frame}
+use Rattle.octets.proofs.LawsTests.{by-test}
+use Rattle.hdlc.specs.Kinds.{isFlag, isEscape, isSkipped}
+use Rattle.hdlc.specs.Frame.{sent, stuffed, checked, frame}
 use Rattle.hdlc.proofs.LawsFrame.{checked-length}
 
 sent-bounds : (b : ℕ) → (1 ≤ length (sent b)) × (length (sent b) ≤ 2)
 unfolding sent
-sent-bounds b = by-kind (kindOf b)
-  where
-    by-kind : (k : Kind) → (1 ≤ length (sentAs k b)) × (length (sentAs k b) ≤ 2)
-    by-kind Flag = omega arith
-    by-kind Escape = omega arith
-    by-kind Skipped = omega arith
-    by-kind Plain = omega arith
+sent-bounds b = by-test (isFlag b || isEscape b || isSkipped b) (λ t. simp t (omega arith)) (λ t. simp t (omega arith))
 
 stuffed-bounds : (xs : List ℕ) → (length xs ≤ length (stuffed xs)) × (length (stuffed xs) ≤ 2 * length xs)
 unfolding stuffed

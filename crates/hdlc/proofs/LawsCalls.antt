@@ -11,12 +11,10 @@ use lib.Dec.{ltb, eqb}
 use lib.ListN.{length}
 use Rattle.octets.proofs.LawsRuns.{each-append}
 use Rattle.octets.proofs.LawsTests.{by-test}
-use Rattle.hdlc.specs.declared.kind.Kind.{Kind}
-use Rattle.hdlc.specs.declared.kind.Kind.the-variants.{Flag, Escape, Skipped, Plain}
 use Rattle.hdlc.specs.declared.reader.Fate.the-variants.{Unfinished}
-use Rattle.hdlc.specs.Kinds.{kindOf}
+use Rattle.hdlc.specs.Kinds.{isFlag}
 use Rattle.hdlc.specs.Reading.{decided, judged, mostGathered, fresh, Held, held, run}
-use Rattle.hdlc.specs.Wire.{kept, gathered, cutEscape, verdict, endsAs, growsAs, ended, grown, finished, unfinished, told, verdicts, Call, verdictAs, verdictAt, call, callReads}
+use Rattle.hdlc.specs.Wire.{kept, gathered, cutEscape, verdict, ended, grown, finished, unfinished, told, verdicts, Call, verdictAt, call, callReads}
 use Rattle.hdlc.specs.States.{readerAfter, over, holding, closed}
 use Rattle.hdlc.proofs.LawsFates.{told-judged}
 use Rattle.hdlc.proofs.LawsStates.{over-few, over-length, decides-flag}
@@ -27,13 +25,7 @@ use Rattle.hdlc.proofs.ClosedForm.{call-closed}
 -- the verdict of the piece that an octet ends
 told-ends : (p : List ℕ) (b : ℕ) → verdicts (ended p b) ≡ told (verdictAt p b) (gathered p)
 unfolding verdicts ended verdictAt told
-told-ends p b = by-kind (kindOf b)
-  where
-    by-kind : (k : Kind) → verdicts (endsAs k p) ≡ told (verdictAs k p) (gathered p)
-    by-kind Flag = append-nil (told (verdict p) (gathered p))
-    by-kind Escape = refl
-    by-kind Skipped = refl
-    by-kind Plain = refl
+told-ends p b = by-test (isFlag b) (λ f. simp f (append-nil (told (verdict p) (gathered p)))) (λ f. simp f)
 
 -- what a call read finishes the piece with its fate, if any, and leaves the piece that it ended in or nothing
 pub record Reads (p xs : List ℕ) : Type 0 where
@@ -48,7 +40,7 @@ reads (b ∷ bs) p =
     (λ t.
     record {
       tells = simp t (ap verdicts (append-nil (ended p b)) ∙ told-ends p b ∙ simp t);
-      leaves = simp t (ap (λ k. growsAs k p b) (decides-flag p b t));
+      leaves = simp (t, decides-flag p b t);
     })
     (λ t.
     let rest = reads bs (grown p b) in
@@ -65,7 +57,7 @@ call-verdict : (xs p : List ℕ) → (call p xs .fate ≡ Unfinished) ⊎ (call 
 unfolding call verdictAt
 call-verdict [] p = inl refl
 call-verdict (b ∷ bs) p =
-    by-test (decided (verdictAt p b)) (λ t. simp t (inr (ap (λ k. verdictAs k p) (decides-flag p b t)))) (λ t. simp t (call-verdict bs (grown p b)))
+    by-test (decided (verdictAt p b)) (λ t. simp t (inr (simp (decides-flag p b t)))) (λ t. simp t (call-verdict bs (grown p b)))
 
 told-over : (p a : List ℕ) → told (verdict p) (over (gathered p) a) ≡ told (verdict p) (gathered p)
 unfolding verdict told

@@ -1,7 +1,7 @@
 -- Laws of written frames: octets as they are sent, one by one, and a frame in the order in which it is written. Assumes nothing.
 use types.Run.{OneOf, miss}
 use denote.Enum.Declared.{tagOf}
-use mathlib.Core.Path.{_≡_, refl, sym, ap, _∙_}
+use mathlib.Core.Path.{_≡_, sym, ap, _∙_}
 use mathlib.Core.List.{List, [], _∷_, _++_, append-assoc}
 use Prim.Native.Nat.{ℕ, _+_, _<_, _≤_}
 use native.Mathlib.Nat.{zero-add}
@@ -18,23 +18,24 @@ use Rattle.hdlc.specs.declared.kind.Kind.{Kind}
 use Rattle.hdlc.specs.declared.kind.Kind.the-variants.{Flag, Escape, Skipped, Plain}
 use Rattle.hdlc.specs.Kinds.{kindOf}
 use Rattle.hdlc.specs.Fcs.{fcs}
-use Rattle.hdlc.specs.Frame.{sentAs, sent, stuffed, checked, frame, written, writing}
+use Rattle.hdlc.specs.Frame.{sent, stuffed, checked, frame, written, writing}
 use Rattle.hdlc.proofs.kind.Kind.{the-type as kind-type}
+use Rattle.hdlc.proofs.LawsKinds.{Tests, flags, escapes, skips, kind-tests}
 
 pub sent-plain : {k : Kind} (b : ℕ) → k ≡ kindOf b → k ≡ Plain → sent b ≡ b ∷ []
 unfolding sent
-sent-plain b e p = ap (λ k. sentAs k b) (sym e ∙ p)
+sent-plain b e p = let t = kind-tests b (sym p ∙ e) in simp (t .flag, t .escape, t .skipped)
 
 -- the `else` of an `if let` tells that the tag is one of the others
-as-escaped : (k : Kind) (b : ℕ) → OneOf (0 ∷ 1 ∷ 2 ∷ []) (tagOf kind-type k) → sentAs k b ≡ 0x7d ∷ bitXor b 0x20 ∷ []
-as-escaped Flag b o = refl
-as-escaped Escape b o = refl
-as-escaped Skipped b o = refl
-as-escaped Plain b o = absurd (miss (0 ∷ 1 ∷ 2 ∷ []) 3 tt o)
-
 pub sent-escaped : {k : Kind} (b : ℕ) → k ≡ kindOf b → OneOf (0 ∷ 1 ∷ 2 ∷ []) (tagOf kind-type k) → sent b ≡ 0x7d ∷ bitXor b 0x20 ∷ []
 unfolding sent
-sent-escaped {k} b e o = ap (λ k. sentAs k b) (sym e) ∙ as-escaped k b o
+sent-escaped {k} b e o = by-kind k (kind-tests b e) o
+  where
+    by-kind : (k : Kind) → Tests b (flags k) (escapes k) (skips k) → OneOf (0 ∷ 1 ∷ 2 ∷ []) (tagOf kind-type k) → sent b ≡ 0x7d ∷ bitXor b 0x20 ∷ []
+    by-kind Flag t o = simp (t .flag)
+    by-kind Escape t o = simp (t .flag, t .escape)
+    by-kind Skipped t o = simp (t .flag, t .escape, t .skipped)
+    by-kind Plain t o = absurd (miss (0 ∷ 1 ∷ 2 ∷ []) 3 tt o)
 
 stuffed-append : (xs ys : List ℕ) → stuffed (xs ++ ys) ≡ stuffed xs ++ stuffed ys
 unfolding stuffed

@@ -1,15 +1,12 @@
 -- What octets add to a piece. Assumes nothing.
 use mathlib.Core.Bool.{Bool, true, false}
 use mathlib.Core.Path.{_≡_, ap, _∙_}
-use mathlib.Core.List.{List, [], _∷_, _++_, foldl, foldl-append}
+use mathlib.Core.List.{List, [], _∷_, _++_, append-nil, foldl, foldl-append}
 use Prim.Native.Nat.{ℕ}
-use lib.Bits.{bitXor}
 use Rattle.octets.specs.Runs.{emitted}
 use Rattle.octets.proofs.LawsRuns.{each-append, emitted-append}
-use Rattle.hdlc.specs.declared.kind.Kind.{Kind}
-use Rattle.hdlc.specs.declared.kind.Kind.the-variants.{Escape, Skipped, Plain}
-use Rattle.hdlc.specs.Kinds.{kindOf}
-use Rattle.hdlc.specs.Wire.{keptAs, kept, meant, pends, gathered, cutEscape}
+use Rattle.hdlc.specs.Kinds.{isSkipped}
+use Rattle.hdlc.specs.Wire.{kept, meant, pends, gathered, cutEscape}
 
 kept-append : (p q : List ℕ) → kept (p ++ q) ≡ kept p ++ kept q
 unfolding kept
@@ -30,19 +27,11 @@ pub record Adds (p q xs : List ℕ) (e : Bool) : Type 0 where
 
 -- one octet more
 module _ (p : List ℕ) (b : ℕ) where
-  pub skipped-adds : kindOf b ≡ Skipped → Adds p (p ++ (b ∷ [])) [] (cutEscape p)
+  pub skipped-adds : isSkipped b ≡ true → Adds p (p ++ (b ∷ [])) [] (cutEscape p)
   unfolding kept
   skipped-adds k = record { octets = gathered-append p (b ∷ []) ∙ simp k; cut = cut-append p (b ∷ []) ∙ simp k }
 
-  -- after an escape
-  pub escaped-adds : (k : Kind) → kindOf b ≡ k → keptAs k b ≡ b ∷ [] → cutEscape p ≡ true → Adds p (p ++ (b ∷ [])) (bitXor b 0x20 ∷ []) false
-  unfolding kept meant pends
-  escaped-adds k e f t = record { octets = gathered-append p (b ∷ []) ∙ simp (e, f, t); cut = cut-append p (b ∷ []) ∙ simp (e, f, t) }
-
-  pub escape-adds : kindOf b ≡ Escape → cutEscape p ≡ false → Adds p (p ++ (b ∷ [])) [] true
-  unfolding kept meant pends
-  escape-adds k t = record { octets = gathered-append p (b ∷ []) ∙ simp (k, t); cut = cut-append p (b ∷ []) ∙ simp (k, t) }
-
-  pub plain-adds : kindOf b ≡ Plain → cutEscape p ≡ false → Adds p (p ++ (b ∷ [])) (b ∷ []) false
-  unfolding kept meant pends
-  plain-adds k t = record { octets = gathered-append p (b ∷ []) ∙ simp (k, t); cut = cut-append p (b ∷ []) ∙ simp (k, t) }
+  pub content-adds : (e : Bool) → cutEscape p ≡ e → isSkipped b ≡ false → Adds p (p ++ (b ∷ [])) (meant e b) (pends e b)
+  unfolding kept
+  content-adds e t k =
+      record { octets = gathered-append p (b ∷ []) ∙ simp (k, t, append-nil); cut = cut-append p (b ∷ []) ∙ simp (k, t) }

@@ -11,15 +11,13 @@ use lib.Bits.{bitXor}
 use lib.ListN.{length, take, drop, set, length-append, length-drop, length-take}
 use lib.Seq.{take-all, take-append-le, take-append-seam, set-at, drop-cons}
 use Rattle.octets.proofs.LawsTests.{by-test}
-use Rattle.hdlc.specs.declared.kind.Kind.{Kind}
-use Rattle.hdlc.specs.declared.kind.Kind.the-variants.{Flag, Escape, Skipped, Plain}
 use Rattle.hdlc.specs.declared.reader.Fate.the-variants.{Unfinished, CutEscape}
-use Rattle.hdlc.specs.Kinds.{kindOf}
-use Rattle.hdlc.specs.Reading.{decided, judged, mostGathered, gathering, overlong, fresh, Held, held, gather, content, afterKind, after, flagFate, fateKind, fateAt}
-use Rattle.hdlc.specs.Wire.{keptAs, kept, gathered, cutEscape, verdict, growsAs, grown, verdictAs, verdictAt}
+use Rattle.hdlc.specs.Kinds.{isFlag, isEscape, isSkipped}
+use Rattle.hdlc.specs.Reading.{decided, judged, mostGathered, gathering, overlong, fresh, held, gather, content, after, flagFate, fateAt}
+use Rattle.hdlc.specs.Wire.{kept, meant, pends, gathered, cutEscape, verdict, grown, verdictAt}
 use Rattle.hdlc.specs.States.{readerAfter, over, holding}
 use Rattle.hdlc.proofs.LawsFates.{judged-decided}
-use Rattle.hdlc.proofs.LawsPieces.{Adds, gathered-append, skipped-adds, escaped-adds, escape-adds, plain-adds}
+use Rattle.hdlc.proofs.LawsPieces.{Adds, gathered-append, skipped-adds, content-adds}
 
 -- ---- gathered octets over a buffer
 
@@ -95,22 +93,29 @@ gathers p q a x e d room few =
 -- ---- an octet that is no flag
 
 -- one that is thrown away
-ignored : (p a : List ℕ) (b : ℕ) (h : Held) → h ≡ held overlong (over (gathered p) a) → mostGathered < length (gathered p) → h ≡ holding (p ++ (b ∷ [])) a
-ignored p a b h e many =
+ignored : (p a : List ℕ) (b : ℕ) → mostGathered < length (gathered p) → held overlong (over (gathered p) a) ≡ holding (p ++ (b ∷ [])) a
+ignored p a b many =
     let longer : length (gathered p) ≤ length (gathered (p ++ (b ∷ []))) =
     omega (arith, ap length (gathered-append p (b ∷ [])) ∙ length-append (gathered p) _) in
-    e
-    ∙ sym
+    sym
     (thrown (p ++ (b ∷ [])) a (omega arith)
     ∙ ap (held overlong) (ap (λ l. over l a) (gathered-append p (b ∷ [])) ∙ over-more (gathered p) _ a (omega arith)))
 
--- one of the content, after an escape
-after-escape : (p a : List ℕ) (b : ℕ) (k : Kind) (isEscape : Bool) → kindOf b ≡ k → keptAs k b ≡ b ∷ [] → cutEscape p ≡ true
-    → mostGathered ≤ length a → length (gathered p) ≤ mostGathered → content (holding p a) isEscape b ≡ holding (p ++ (b ∷ [])) a
-unfolding content
-after-escape p a b k isEscape e f t room few =
-    ap (λ h. content h isEscape b) (going-with p a true t few)
-    ∙ gathers p (p ++ (b ∷ [])) a (bitXor b 0x20) true (escaped-adds p b k e f t) room few
+skipped-after : (p a : List ℕ) (b : ℕ) → isSkipped b ≡ true → holding p a ≡ holding (p ++ (b ∷ [])) a
+skipped-after p a b s =
+    by-length p (λ many. thrown p a many ∙ ignored p a b many) (λ few. going p a few ∙ going-as p _ a _ (skipped-adds p b s) few)
+
+content-after : (p a : List ℕ) (b : ℕ) → isSkipped b ≡ false → mostGathered ≤ length a → content (holding p a) (isEscape b) b ≡ holding (p ++ (b ∷ [])) a
+unfolding content meant pends
+content-after p a b s room =
+    by-length p (λ many. ap (λ h. content h (isEscape b) b) (thrown p a many) ∙ ignored p a b many)
+    (λ few.
+    by-test (cutEscape p)
+    (λ t. ap (λ h. content h (isEscape b) b) (going-with p a true t few) ∙ gathers p _ a (bitXor b 0x20) true (content-adds p b true t s) room few)
+    (λ t.
+    let adds = content-adds p b false t s in
+    ap (λ h. content h (isEscape b) b) (going-with p a false t few)
+    ∙ by-test (isEscape b) (λ e. simp e (going-as p _ a true (rw e at adds) few)) (λ e. simp e (gathers p _ a b false (rw e at adds) room few))))
 
 -- ---- a flag
 
@@ -124,25 +129,13 @@ flag-verdict p a =
     (ap (λ l. cond (cutEscape p) CutEscape (cond (eqb (length (gathered p)) 0) Unfinished (judged l))) (take-append-seam (gathered p) _)))
 
 pub fate-verdict : (p a : List ℕ) (b : ℕ) → fateAt (holding p a) b ≡ verdictAt p b
-unfolding fateAt verdictAt fateKind
-fate-verdict p a b = by-kind (kindOf b)
-  where
-    by-kind : (k : Kind) → fateKind (holding p a) k ≡ verdictAs k p
-    by-kind Flag = flag-verdict p a
-    by-kind Escape = refl
-    by-kind Skipped = refl
-    by-kind Plain = refl
+unfolding fateAt verdictAt
+fate-verdict p a b = ap (λ f. cond (isFlag b) f Unfinished) (flag-verdict p a)
 
 -- only a flag decides
-pub decides-flag : (p : List ℕ) (b : ℕ) → decided (verdictAt p b) ≡ true → kindOf b ≡ Flag
+pub decides-flag : (p : List ℕ) (b : ℕ) → decided (verdictAt p b) ≡ true → isFlag b ≡ true
 unfolding verdictAt
-decides-flag p b = by-kind (kindOf b)
-  where
-    by-kind : (k : Kind) → decided (verdictAs k p) ≡ true → k ≡ Flag
-    by-kind Flag d = refl
-    by-kind Escape d = absurd (false≢true d)
-    by-kind Skipped d = absurd (false≢true d)
-    by-kind Plain d = absurd (false≢true d)
+decides-flag p b = by-test (isFlag b) (λ f d. f) (λ f. simp f (λ d. absurd (false≢true d)))
 
 -- a flag that decides nothing ends a piece that stands for nothing
 pub undecided-empty : (p : List ℕ) → decided (verdict p) ≡ false → gathered p ≡ []
@@ -159,29 +152,18 @@ undecided-empty p =
     empty [] e = refl
     empty (x ∷ xs) e = absurd (omega arith)
 
--- ---- any octet that decides nothing
+flag-after : (p a : List ℕ) → decided (verdict p) ≡ false → held fresh (holding p a .assembly) ≡ holding [] a
+unfolding holding readerAfter gathered cutEscape kept over
+flag-after p a u = ap (λ g. held fresh (over g a)) (undecided-empty p u)
 
-after-kind : (p a : List ℕ) (b : ℕ) (k : Kind) → kindOf b ≡ k → mostGathered ≤ length a → decided (verdictAs k p) ≡ false
-    → afterKind (holding p a) k b ≡ holding (growsAs k p b) a
-unfolding afterKind content holding readerAfter gathered cutEscape kept
-after-kind p a b Flag e room u = ap (λ g. held fresh (over g a)) (undecided-empty p u)
-after-kind p a b Skipped e room u =
-    by-length p (λ many. ignored p a b _ (thrown p a many) many) (λ few. going p a few ∙ going-as p _ a _ (skipped-adds p b e) few)
-after-kind p a b Escape e room u =
-    by-length p (λ many. ignored p a b _ (ap (λ h. content h true b) (thrown p a many)) many)
-    (λ few.
-    by-test (cutEscape p) (λ t. after-escape p a b Escape true e refl t room few)
-    (λ t. ap (λ h. content h true b) (going-with p a false t few) ∙ going-as p _ a true (escape-adds p b e t) few))
-after-kind p a b Plain e room u =
-    by-length p (λ many. ignored p a b _ (ap (λ h. content h false b) (thrown p a many)) many)
-    (λ few.
-    by-test (cutEscape p) (λ t. after-escape p a b Plain false e refl t room few)
-    (λ t. ap (λ h. content h false b) (going-with p a false t few) ∙ gathers p _ a b false (plain-adds p b e t) room few))
+-- ---- any octet
 
 pub after-undecided : (p a : List ℕ) (b : ℕ) → mostGathered ≤ length a → decided (verdictAt p b) ≡ false → after (holding p a) b ≡ holding (grown p b) a
 unfolding after grown verdictAt
-after-undecided p a b room u = after-kind p a b (kindOf b) refl room u
+after-undecided p a b room =
+    by-test (isFlag b) (λ f. simp f (flag-after p a))
+    (λ f. simp f (λ u. by-test (isSkipped b) (λ s. simp s (skipped-after p a b s)) (λ s. simp s (content-after p a b s room))))
 
 pub after-decided : (p a : List ℕ) (b : ℕ) → decided (verdictAt p b) ≡ true → after (holding p a) b ≡ held fresh (over (gathered p) a)
-unfolding after afterKind holding
-after-decided p a b d = ap (λ k. afterKind (holding p a) k b) (decides-flag p b d)
+unfolding after holding
+after-decided p a b d = simp (decides-flag p b d)

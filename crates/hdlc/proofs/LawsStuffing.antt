@@ -1,29 +1,16 @@
 -- Octets as they are sent stand for themselves and hold no flag. Assumes nothing.
 use mathlib.Core.Bool.{Bool, true, false, cond}
-use mathlib.Core.Path.{_≡_, refl, sym, ap, subst, _∙_}
+use mathlib.Core.Path.{_≡_, refl, sym, ap, _∙_}
 use mathlib.Core.List.{List, [], _∷_, _++_, append-assoc, append-nil}
 use Prim.Native.Nat.{ℕ}
-use borrow.Author.Tests.{eqb-true}
-use lib.Dec.{eqb}
 use lib.ListN.{length, length-append}
-use Rattle.octets.proofs.LawsTests.{by-test}
-use Rattle.hdlc.specs.declared.kind.Kind.the-variants.{Plain}
-use Rattle.hdlc.specs.Kinds.{kindOf}
+use Rattle.hdlc.specs.Kinds.{isFlag, isEscape, isSkipped}
+use Rattle.hdlc.proofs.LawsKinds.{Tests, by-octet}
 use Rattle.hdlc.specs.Frame.{sent, stuffed}
 use Rattle.hdlc.specs.Reading.{later}
 use Rattle.hdlc.specs.Wire.{kept, meant, pends, gathered, cutEscape, grown, verdictAt, call}
 use Rattle.hdlc.proofs.LawsReading.{later-zero, later-later}
 use Rattle.hdlc.proofs.LawsPieces.{gathered-append, cut-append}
-
--- an octet is one of the five that are escaped, or plain
-by-octet : (P : ℕ → Type 0) → P 0x7e → P 0x7d → P 0x11 → P 0x13 → P 0xf8 → ((b : ℕ) → kindOf b ≡ Plain → P b) → (b : ℕ) → P b
-unfolding kindOf
-by-octet P flag escape xon xoff f8 plain b =
-    by-test (eqb b 0x7e) (λ e. subst P (sym (eqb-true b 0x7e e)) flag)
-    (λ e0. by-test (eqb b 0x7d) (λ e. subst P (sym (eqb-true b 0x7d e)) escape)
-    (λ e1. by-test (eqb b 0x11) (λ e. subst P (sym (eqb-true b 0x11 e)) xon)
-    (λ e2. by-test (eqb b 0x13) (λ e. subst P (sym (eqb-true b 0x13 e)) xoff)
-    (λ e3. by-test (eqb b 0xf8) (λ e. subst P (sym (eqb-true b 0xf8 e)) f8) (λ e4. plain b (simp (e0, e1, e2, e3, e4)))))))
 
 record Sent (b : ℕ) : Type 0 where
   gives : gathered (sent b) ≡ b ∷ []
@@ -35,8 +22,17 @@ record Sent (b : ℕ) : Type 0 where
 escaped-passed : (p xs : List ℕ) (b : ℕ) → later 1 (later 1 (call ((p ++ (0x7d ∷ [])) ++ (b ∷ [])) xs)) ≡ later 2 (call (p ++ (0x7d ∷ b ∷ [])) xs)
 escaped-passed p xs b = later-later 1 1 _ ∙ ap (λ q. later 2 (call q xs)) (append-assoc p (0x7d ∷ []) (b ∷ []))
 
+plain-sent : (b : ℕ) → Tests b false false false → Sent b
+unfolding sent gathered cutEscape kept meant pends call verdictAt grown
+plain-sent b t =
+    record {
+      gives = simp (t .flag, t .escape, t .skipped);
+      whole = simp (t .flag, t .escape, t .skipped);
+      passed = λ p xs. simp (t .flag, t .escape, t .skipped);
+    }
+
 is-sent : (b : ℕ) → Sent b
-unfolding sent kindOf gathered cutEscape kept meant pends call verdictAt grown
+unfolding sent isFlag isEscape isSkipped gathered cutEscape kept meant pends call verdictAt grown
 is-sent =
     by-octet Sent
     (record { gives = refl; whole = refl; passed = λ p xs. escaped-passed p xs 0x5e })
@@ -44,7 +40,7 @@ is-sent =
     (record { gives = refl; whole = refl; passed = λ p xs. escaped-passed p xs 0x31 })
     (record { gives = refl; whole = refl; passed = λ p xs. escaped-passed p xs 0x33 })
     (record { gives = refl; whole = refl; passed = λ p xs. escaped-passed p xs 0xd8 })
-    (λ b k. record { gives = simp k; whole = simp k; passed = λ p xs. simp k })
+    plain-sent
 
 pub stuffed-gives : (xs : List ℕ) → (gathered (stuffed xs) ≡ xs) × (cutEscape (stuffed xs) ≡ false)
 unfolding stuffed gathered cutEscape kept
@@ -58,7 +54,7 @@ stuffed-gives (x ∷ xs) =
 
 -- with an escape behind them or not
 pub spelled : (xs : List ℕ) (e : Bool) → (gathered (stuffed xs ++ cond e (0x7d ∷ []) []) ≡ xs) × (cutEscape (stuffed xs ++ cond e (0x7d ∷ []) []) ≡ e)
-unfolding kindOf kept meant pends
+unfolding isEscape isSkipped kept meant pends
 spelled xs true =
     let s = stuffed-gives xs in (
       gathered-append (stuffed xs) (0x7d ∷ []) ∙ rw (s .0, s .1) (append-nil xs),

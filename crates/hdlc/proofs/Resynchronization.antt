@@ -13,9 +13,9 @@ use Rattle.octets.specs.LittleEndian.{leOctets}
 use Rattle.octets.proofs.LawsTests.{by-test}
 use Rattle.hdlc.specs.declared.reader.Reader.{Reader}
 use Rattle.hdlc.specs.Fcs.{fcs}
-use Rattle.hdlc.specs.Kinds.{kindOf}
+use Rattle.hdlc.specs.Kinds.{isFlag}
 use Rattle.hdlc.specs.Frame.{Body, checked, frame}
-use Rattle.hdlc.specs.Reading.{decided, headed, mostGathered, fresh, Held, held, after, afterKind, flagFate, fateKind, fateAt, Outcome, outcome, later, run}
+use Rattle.hdlc.specs.Reading.{decided, headed, mostGathered, fresh, Held, held, after, flagFate, fateAt, Outcome, outcome, later, run}
 use Rattle.hdlc.specs.Wire.{Verdict, told}
 use Rattle.hdlc.specs.Histories.{callsTell, callsLeave, offers, offered}
 use Rattle.hdlc.proofs.LawsFates.{headed-decided, told-headed}
@@ -66,12 +66,12 @@ module _ (r : Reader) (a body : List ℕ) (room : mostGathered ≤ length a) (si
 
   -- what was open has a fate: the flag ends a call
   decided-first : decided (flagFate (held r a)) ≡ true → run (held r a) (0x7e ∷ frame body) ≡ outcome (flagFate (held r a)) 1 fresh a
-  unfolding run fateAt fateKind after afterKind kindOf
+  unfolding run fateAt after isFlag
   decided-first t = simp t
 
   -- it has none: the call goes on
   undecided-first : decided (flagFate (held r a)) ≡ false → run (held r a) (0x7e ∷ frame body) ≡ later 1 read-frame
-  unfolding run fateAt fateKind after afterKind kindOf read-frame
+  unfolding run fateAt after isFlag read-frame
   undecided-first t = simp t (ap (later 1) (round-trip body size octets a room))
 
   untold : decided (flagFate (held r a)) ≡ false → told (flagFate (held r a)) a ≡ []

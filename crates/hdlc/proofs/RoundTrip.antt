@@ -13,7 +13,7 @@ use Rattle.octets.specs.LittleEndian.{le, leAt, leOctets}
 use Rattle.octets.proofs.LawsLittleEndian.{length-le}
 use Rattle.octets.proofs.LittleEndianRoundTrip.{number-back}
 use Rattle.hdlc.specs.Fcs.{fcs}
-use Rattle.hdlc.specs.Kinds.{kindOf}
+use Rattle.hdlc.specs.Kinds.{isFlag}
 use Rattle.hdlc.specs.Frame.{Body, stuffed, checked, frame}
 use Rattle.hdlc.specs.Reading.{later, bodyOf, checkOf, judged, headed, mostGathered, fresh, held, outcome, run}
 use Rattle.hdlc.specs.Wire.{kept, gathered, cutEscape, verdict, grown, verdictAt, call}
@@ -27,7 +27,7 @@ use Rattle.hdlc.proofs.ClosedForm.{call-closed}
 
 -- the first flag ends nothing
 first-flag : (xs : List ℕ) → call [] (0x7e ∷ xs) ≡ later 1 (call [] xs)
-unfolding call verdictAt verdict grown kindOf gathered cutEscape kept
+unfolding call verdictAt verdict grown isFlag gathered cutEscape kept
 first-flag xs = refl
 
 module _ (body : List ℕ) (size : Body body) (octets : Octets body) where
@@ -64,7 +64,7 @@ module _ (body : List ℕ) (size : Body body) (octets : Octets body) where
       checked-judged
 
   last-flag : call (stuffed (checked body)) (0x7e ∷ []) ≡ record { fate = headed body; read = 1; state = stuffed (checked body) }
-  unfolding call verdictAt kindOf
+  unfolding call verdictAt isFlag
   last-flag = rw (frame-verdict, headed-decided body)
 
   frame-call : call [] (frame body) ≡ record { fate = headed body; read = length (frame body); state = stuffed (checked body) }

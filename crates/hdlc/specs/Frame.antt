@@ -1,13 +1,12 @@
 -- A written frame (01, Octets on the wire): "a flag, the escaped body and check, and a flag".
+use mathlib.Core.Bool.{cond, _||_}
 use mathlib.Core.List.{List, [], _∷_, _++_}
 use Prim.Native.Nat.{ℕ, _≤_}
 use lib.Bits.{bitXor}
 use lib.ListN.{length, drop}
 use Rattle.octets.specs.Runs.{each}
 use Rattle.octets.specs.LittleEndian.{leOctets}
-use Rattle.hdlc.specs.declared.kind.Kind.{Kind}
-use Rattle.hdlc.specs.declared.kind.Kind.the-variants.{Flag, Escape, Skipped, Plain}
-use Rattle.hdlc.specs.Kinds.{kindOf}
+use Rattle.hdlc.specs.Kinds.{isFlag, isEscape, isSkipped}
 use Rattle.hdlc.specs.Fcs.{fcs}
 
 -- "Bodies have 2 to 1,300 octets"
@@ -15,14 +14,8 @@ abbrev pub Body : List ℕ → Type 0
 Body body = (2 ≤ length body) × (length body ≤ 1300)
 
 -- "7D and then the octet xor 0x20 for each of 7E, 7D, 11, 13, F8"; any other octet as it is
-abbrev pub sentAs : Kind → ℕ → List ℕ
-sentAs Flag b = 0x7d ∷ bitXor b 0x20 ∷ []
-sentAs Escape b = 0x7d ∷ bitXor b 0x20 ∷ []
-sentAs Skipped b = 0x7d ∷ bitXor b 0x20 ∷ []
-sentAs Plain b = b ∷ []
-
 unfoldable pub sent : ℕ → List ℕ
-sent b = sentAs (kindOf b) b
+sent b = cond (isFlag b || isEscape b || isSkipped b) (0x7d ∷ bitXor b 0x20 ∷ []) (b ∷ [])
 
 unfoldable pub stuffed : List ℕ → List ℕ
 stuffed xs = each sent xs

@@ -6,12 +6,10 @@ use lib.Dec.{ltb, eqb}
 use lib.ListN.{length, take, getD, set}
 use lib.Bits.{bitXor}
 use Rattle.octets.specs.LittleEndian.{leAt}
-use Rattle.hdlc.specs.declared.kind.Kind.{Kind}
-use Rattle.hdlc.specs.declared.kind.Kind.the-variants.{Flag, Escape, Skipped, Plain}
 use Rattle.hdlc.specs.declared.reader.Fate.{Fate}
 use Rattle.hdlc.specs.declared.reader.Fate.the-variants.{Unfinished, Checked, Short, WrongCheck, TooLong, CutEscape, BadHeader}
 use Rattle.hdlc.specs.declared.reader.Reader.{Reader}
-use Rattle.hdlc.specs.Kinds.{kindOf}
+use Rattle.hdlc.specs.Kinds.{isFlag, isEscape, isSkipped}
 use Rattle.hdlc.specs.Fcs.{fcs}
 
 -- ---- fates
@@ -88,20 +86,14 @@ gather h b =
 -- an octet that is neither a flag nor skipped, and whether it is the escape;
 -- "After an escape any other octet except a flag is taken xor 0x20"
 unfoldable pub content : Held → Bool → ℕ → Held
-content h isEscape b =
+content h escape b =
     cond (h .reader .discarding) h
     (cond (h .reader .escaped) (gather h (bitXor b 0x20))
-    (cond isEscape (held (gathering (h .reader .count) true) (h .assembly)) (gather h b)))
+    (cond escape (held (gathering (h .reader .count) true) (h .assembly)) (gather h b)))
 
 -- "After any flag the reader is fresh again"; 11, 13 and F8 are skipped "wherever they stand, also after an escape"
-unfoldable pub afterKind : Held → Kind → ℕ → Held
-afterKind h Flag b = held fresh (h .assembly)
-afterKind h Skipped b = h
-afterKind h Escape b = content h true b
-afterKind h Plain b = content h false b
-
 unfoldable pub after : Held → ℕ → Held
-after h b = afterKind h (kindOf b) b
+after h b = cond (isFlag b) (held fresh (h .assembly)) (cond (isSkipped b) h (content h (isEscape b) b))
 
 -- at a flag: fates 4 and 5, then none where nothing is gathered ("is no frame and has no fate"), then 2, 3, 6 and 1
 unfoldable pub flagFate : Held → Fate
@@ -111,14 +103,8 @@ flagFate h =
     (cond (eqb (h .reader .count) 0) Unfinished (judged (take (h .reader .count) (h .assembly)))))
 
 -- only a flag decides a fate
-unfoldable pub fateKind : Held → Kind → Fate
-fateKind h Flag = flagFate h
-fateKind h Escape = Unfinished
-fateKind h Skipped = Unfinished
-fateKind h Plain = Unfinished
-
 unfoldable pub fateAt : Held → ℕ → Fate
-fateAt h b = fateKind h (kindOf b)
+fateAt h b = cond (isFlag b) (flagFate h) Unfinished
 
 -- ---- a call
 

@@ -6,39 +6,25 @@ use lib.Dec.{ltb, eqb}
 use lib.ListN.{length, take}
 use lib.Bits.{bitXor}
 use Rattle.octets.specs.Runs.{each, emitted}
-use Rattle.hdlc.specs.declared.kind.Kind.{Kind}
-use Rattle.hdlc.specs.declared.kind.Kind.the-variants.{Flag, Escape, Skipped, Plain}
 use Rattle.hdlc.specs.declared.reader.Fate.{Fate}
 use Rattle.hdlc.specs.declared.reader.Fate.the-variants.{Unfinished, Checked, Short, WrongCheck, TooLong, CutEscape, BadHeader}
-use Rattle.hdlc.specs.Kinds.{kindOf}
+use Rattle.hdlc.specs.Kinds.{isFlag, isEscape, isSkipped}
 use Rattle.hdlc.specs.Reading.{mostGathered, number, decided, judged, Read, later}
 
 -- ---- one piece: the octets between two flags
 
 -- "take out 11, 13 and F8"
-abbrev pub keptAs : Kind → ℕ → List ℕ
-keptAs Flag b = b ∷ []
-keptAs Escape b = b ∷ []
-keptAs Skipped b = []
-keptAs Plain b = b ∷ []
-
 unfoldable pub kept : List ℕ → List ℕ
-kept p = each (λ b. keptAs (kindOf b) b) p
+kept p = each (λ b. cond (isSkipped b) [] (b ∷ [])) p
 
 -- "then undo the escapes": what an octet stands for where an escape is pending and where none is, and whether one is pending after it
-abbrev pub isEscape : Kind → Bool
-isEscape Flag = false
-isEscape Escape = true
-isEscape Skipped = false
-isEscape Plain = false
-
 unfoldable pub meant : Bool → ℕ → List ℕ
 meant true b = bitXor b 0x20 ∷ []
-meant false b = cond (isEscape (kindOf b)) [] (b ∷ [])
+meant false b = cond (isEscape b) [] (b ∷ [])
 
 unfoldable pub pends : Bool → ℕ → Bool
 pends true b = false
-pends false b = isEscape (kindOf b)
+pends false b = isEscape b
 
 -- the octets that a piece stands for, and whether it ends in an escape
 unfoldable pub gathered : List ℕ → List ℕ
@@ -56,23 +42,11 @@ verdict p =
 -- ---- the wire: "Cut this at the flags; what follows the last is unfinished"
 
 -- the piece that an octet ends, if any, and the piece that is open after it
-abbrev pub endsAs : Kind → List ℕ → List (List ℕ)
-endsAs Flag p = p ∷ []
-endsAs Escape p = []
-endsAs Skipped p = []
-endsAs Plain p = []
-
-abbrev pub growsAs : Kind → List ℕ → ℕ → List ℕ
-growsAs Flag p b = []
-growsAs Escape p b = p ++ (b ∷ [])
-growsAs Skipped p b = p ++ (b ∷ [])
-growsAs Plain p b = p ++ (b ∷ [])
-
 unfoldable pub ended : List ℕ → ℕ → List (List ℕ)
-ended p b = endsAs (kindOf b) p
+ended p b = cond (isFlag b) (p ∷ []) []
 
 unfoldable pub grown : List ℕ → ℕ → List ℕ
-grown p b = growsAs (kindOf b) p b
+grown p b = cond (isFlag b) [] (p ++ (b ∷ []))
 
 -- of octets that come after an open piece p: the pieces that they finish, and the one that they leave unfinished
 unfoldable pub finished : List ℕ → List ℕ → List (List ℕ)
@@ -111,14 +85,8 @@ abbrev pub Call : Type 0
 Call = Read (List ℕ)
 
 -- the fate that an octet gives to the piece before it
-abbrev pub verdictAs : Kind → List ℕ → Fate
-verdictAs Flag p = verdict p
-verdictAs Escape p = Unfinished
-verdictAs Skipped p = Unfinished
-verdictAs Plain p = Unfinished
-
 unfoldable pub verdictAt : List ℕ → ℕ → Fate
-verdictAt p b = verdictAs (kindOf b) p
+verdictAt p b = cond (isFlag b) (verdict p) Unfinished
 
 unfoldable pub call : List ℕ → List ℕ → Call
 call p [] = record { fate = Unfinished; read = 0; state = p }

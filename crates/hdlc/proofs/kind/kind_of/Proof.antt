@@ -2,24 +2,24 @@
 use mathlib.Core.Logic.{inl, inr, ⊎-elim}
 use mathlib.Core.Path.{sym, ap}
 use borrow.Author.Tests.{ne-eqb}
-use Rattle.hdlc.specs.Kinds.{kindOf}
+use Rattle.hdlc.specs.Kinds.{isFlag, isEscape, isSkipped, kindOf}
 use Rattle.hdlc.proofs.kind.kind_of.Statement.{statement}
 use Rattle.hdlc.proofs.kind.kind_of.Tie as tie
 
 returns : tie.Need-returns
-unfolding kindOf
+unfolding kindOf isFlag isEscape isSkipped
 returns c = sym (ap kindOf (c .match .keys1))
 
 returns-2 : tie.Need-returns-2
-unfolding kindOf
+unfolding kindOf isFlag isEscape isSkipped
 returns-2 c = sym (ap kindOf (c .match .keys2))
 
 returns-3 : tie.Need-returns-3
-unfolding kindOf
+unfolding kindOf isFlag isEscape isSkipped
 returns-3 c = ⊎-elim (λ e. sym (ap kindOf e)) (⊎-elim (λ e. sym (ap kindOf e)) (λ e. sym (ap kindOf e))) (c .match .keys3)
 
 returns-4 : tie.Need-returns-4
-unfolding kindOf
+unfolding kindOf isFlag isEscape isSkipped
 returns-4 c =
     let b = c .before .args .octet in
     let none = c .match .rest in

@@ -1,7 +1,8 @@
 -- Each arm has the kind by which the definitions go. Assumes nothing.
 use mathlib.Core.Path.{sym, _∙_}
 use borrow.Author.Needs.{needs}
-use Rattle.hdlc.specs.Reading.{afterKind, after, fateKind, fateAt}
+use Rattle.hdlc.specs.Reading.{after, fateAt}
+use Rattle.hdlc.proofs.LawsKinds.{kind-tests}
 use Rattle.hdlc.proofs.reader.read_octet.Statement.{statement}
 use Rattle.hdlc.proofs.reader.read_octet.Tie as tie
 
@@ -21,18 +22,20 @@ same-length : tie.Need-same-length
 same-length c = search needs
 
 returns : tie.Need-returns
-unfolding fateAt fateKind after afterKind
+unfolding fateAt after
 returns c =
     let told = c .before .before .before in
-    let e = sym (told .before .before .kind-of .ensures) ∙ told .enum-told .given .1 in
-    (rw e (c .before .flag-fate .ensures), rw (e, c .fresh .ensures))
+    let t = kind-tests _ (sym (told .enum-told .given .1) ∙ told .before .before .kind-of .ensures) in
+    (rw (t .flag) (c .before .flag-fate .ensures), rw (t .flag, c .fresh .ensures))
 
 enum-told-2 : tie.Need-enum-told-2
 enum-told-2 c = search needs
 
 returns-2 : tie.Need-returns-2
-unfolding fateAt fateKind after afterKind
-returns-2 c = let e = sym (c .before .before .kind-of .ensures) ∙ c .enum-told2 .given .1 in (rw e, rw e)
+unfolding fateAt after
+returns-2 c =
+    let t = kind-tests _ (sym (c .enum-told2 .given .1) ∙ c .before .before .kind-of .ensures) in
+    (rw (t .flag), rw (t .flag, t .skipped))
 
 enum-told-3 : tie.Need-enum-told-3
 enum-told-3 c = search needs
@@ -44,11 +47,11 @@ same-length-2 : tie.Need-same-length-2
 same-length-2 c = search needs
 
 returns-3 : tie.Need-returns-3
-unfolding fateAt fateKind after afterKind
+unfolding fateAt after
 returns-3 c =
     let told = c .before .before .before .before in
-    let e = sym (told .before .before .kind-of .ensures) ∙ told .enum-told3 .given .1 in
-    (rw e, rw e (c .before .before .take-content .ensures))
+    let t = kind-tests _ (sym (told .enum-told3 .given .1) ∙ told .before .before .kind-of .ensures) in
+    (rw (t .flag), rw (t .flag, t .skipped, t .escape) (c .before .before .take-content .ensures))
 
 enum-told-4 : tie.Need-enum-told-4
 enum-told-4 c = search needs
@@ -60,11 +63,11 @@ same-length-3 : tie.Need-same-length-3
 same-length-3 c = search needs
 
 returns-4 : tie.Need-returns-4
-unfolding fateAt fateKind after afterKind
+unfolding fateAt after
 returns-4 c =
     let told = c .before .before .before .before in
-    let e = sym (told .before .before .kind-of .ensures) ∙ told .enum-told4 .given .1 in
-    (rw e, rw e (c .before .before .take-content2 .ensures))
+    let t = kind-tests _ (sym (told .enum-told4 .given .1) ∙ told .before .before .kind-of .ensures) in
+    (rw (t .flag), rw (t .flag, t .skipped, t .escape) (c .before .before .take-content2 .ensures))
 
 pub read-octet-spec : {M : Type 1} → statement M
 read-octet-spec =
