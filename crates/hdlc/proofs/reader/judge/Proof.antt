@@ -1,10 +1,14 @@
 -- Each way out has the tests that `judged` makes. Assumes nothing.
-use mathlib.Core.Path.{_≡_, sym, ap₂}
+use mathlib.Core.Bool.{cond}
+use mathlib.Core.Path.{_≡_, sym, ap₂, _∙_}
+use Prim.Native.Nat.{_-_, _/_}
 use native.Mathlib.Omega.{arith}
 use borrow.Author.Needs.{needs}
 use borrow.Author.Tests.{eq-eqb, ne-eqb, lt-ltb, le-ltb}
 use lib.Dec.{eqb}
+use lib.ListN.{length, getD}
 use lib.Seq.{length-take-le}
+use Rattle.hdlc.specs.declared.reader.Fate.the-variants.{Checked, BadHeader}
 use Rattle.hdlc.specs.Fcs.{fcs}
 use Rattle.hdlc.specs.Reading.{bodyOf, checkOf, judged}
 use Rattle.hdlc.proofs.LawsFates.{headed-gathered}
@@ -46,32 +50,23 @@ returns-2 c =
       ne-eqb _ _ (c .if2 .taken),
     )
 
+-- where the check is right, the header decides
+right-check : (c : tie.Else2) → let g = c .before .before .before .before .before .before .args .gathered .now in
+    judged g ≡ cond (eqb (getD g 0 0 / 64) 2) (Checked (length g - 2)) BadHeader
+unfolding judged
+right-check c =
+    let known = c .before in
+    let long = known .before .before .before .if1 .left in
+    rw (le-ltb _ _ long, same-test known, eq-eqb _ _ (c .if2 .left)) (headed-gathered _ long)
+
 shared-slice-read-if3 : tie.Need-shared-slice-read-if3
 shared-slice-read-if3 c = search needs
 
 returns-3 : tie.Need-returns-3
-unfolding judged
-returns-3 c =
-    let known = c .before .before .before in
-    rw (
-      le-ltb _ _ (known .before .before .before .if1 .left),
-      same-test known,
-      eq-eqb _ _ (c .before .before .if2 .left),
-      headed-gathered _ (known .before .before .before .if1 .left),
-      ne-eqb _ _ (c .if3 .taken),
-    )
+returns-3 c = sym (right-check (c .before .before) ∙ rw (ne-eqb _ _ (c .if3 .taken)))
 
 returns-4 : tie.Need-returns-4
-unfolding judged
-returns-4 c =
-    let known = c .before .before .before in
-    rw (
-      le-ltb _ _ (known .before .before .before .if1 .left),
-      same-test known,
-      eq-eqb _ _ (c .before .before .if2 .left),
-      headed-gathered _ (known .before .before .before .if1 .left),
-      eq-eqb _ _ (c .if3 .left),
-    )
+returns-4 c = sym (right-check (c .before .before) ∙ rw (eq-eqb _ _ (c .if3 .left)))
 
 pub judge-spec : {M : Type 1} → statement M
 judge-spec =
