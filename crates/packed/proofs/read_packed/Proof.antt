@@ -65,6 +65,7 @@ unfolding joined
 returns-4 c =
     let w = c .before .before .before .before .loop in
     let s = c .before .before .before .before .before .before .before .before .args .octets .now in
+    let octet = c .before .shared-slice-known2 .given (w .next) in
     rw (number-last s (w .next) (w .left) (omega arith) (omega arith) (omega arith), eq-eqb (getD s (w .next) 0) 0 (omega arith)) at (w .inv .0)
 
 module _ (c : tie.After-shared-slice-known2 Inv-loop μ-loop) where
