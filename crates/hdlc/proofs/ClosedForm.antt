@@ -15,7 +15,7 @@ use Rattle.hdlc.specs.Reading.{decided, mostGathered, gathering, overlon
 use Rattle.hdlc.specs.Rules.{Rules}
 use Rattle.hdlc.specs.Wire.{gathered, cutEscape, verdictAt, grown, call}
 use Rattle.hdlc.specs.States.{over, holding, openPiece, closed}
-use Rattle.hdlc.proofs.LawsStates.{over-few, over-more, going, thrown, fate-verdict, after-undecided, after-decided}
+use Rattle.hdlc.proofs.LawsStates.{over-few, over-more, gathering-state, overlong-state, fate-verdict, after-undecided, after-decided}
 use Rattle.hdlc.proofs.LawsStuffing.{stuffed-gives, spelled}
 
 -- ---- after a piece
@@ -38,9 +38,9 @@ over-itself a room =
     let size : length (take mostGathered a) ≡ mostGathered = length-take-le mostGathered a room in
     over-few (take mostGathered a) a (omega arith) ∙ ap (λ n. take mostGathered a ++ drop n a) size ∙ take-append-drop mostGathered a
 
-gathers : (r : Reader) (a : List ℕ) → Rules r → mostGathered ≤ length a → r .discarding ≡ false → held r a ≡ holding (openPiece r a) a
+gathering-open : (r : Reader) (a : List ℕ) → Rules r → mostGathered ≤ length a → r .discarding ≡ false → held r a ≡ holding (openPiece r a) a
 unfolding openPiece
-gathers r a keeps room t =
+gathering-open r a keeps room t =
     let xs : List ℕ = take (r .count) a in
     let p : List ℕ = stuffed xs ++ cond (r .escaped) (0x7d ∷ []) [] in
     let size : length xs ≡ r .count = length-take-le (r .count) a (omega (arith, keeps .count)) in
@@ -50,14 +50,14 @@ gathers r a keeps room t =
     ap (λ z. held z a) is
     ∙ sym
     (ap (λ z. holding (cond z (stuffed (take mostGathered a ++ (0 ∷ []))) p) a) t
-    ∙ going p a few
+    ∙ gathering-state p a few
     ∙ ap₂ (λ g z. held (gathering (length g) z) (g ++ drop (length g) a)) (s .0) (s .1)
     ∙ ap (λ n. held (gathering n (r .escaped)) (xs ++ drop n a)) size
     ∙ ap (held (gathering (r .count) (r .escaped))) (take-append-drop (r .count) a))
 
-discards : (r : Reader) (a : List ℕ) → Rules r → mostGathered ≤ length a → r .discarding ≡ true → held r a ≡ holding (openPiece r a) a
+overlong-open : (r : Reader) (a : List ℕ) → Rules r → mostGathered ≤ length a → r .discarding ≡ true → held r a ≡ holding (openPiece r a) a
 unfolding openPiece
-discards r a keeps room t =
+overlong-open r a keeps room t =
     let xs : List ℕ = take mostGathered a in
     let p : List ℕ = stuffed (xs ++ (0 ∷ [])) in
     let size : length xs ≡ mostGathered = length-take-le mostGathered a room in
@@ -67,12 +67,12 @@ discards r a keeps room t =
     ap (λ z. held z a) is
     ∙ sym
     (ap (λ z. holding (cond z p (stuffed (take (r .count) a) ++ cond (r .escaped) (0x7d ∷ []) [])) a) t
-    ∙ thrown p a many
+    ∙ overlong-state p a many
     ∙ ap (held overlong) (ap (λ g. over g a) s ∙ over-more xs (0 ∷ []) a (omega arith) ∙ over-itself a room))
 
 -- what is open in a reader leaves that reader
 pub open-holds : (r : Reader) (a : List ℕ) → Rules r → mostGathered ≤ length a → held r a ≡ holding (openPiece r a) a
-open-holds r a keeps room = by-test (r .discarding) (discards r a keeps room) (gathers r a keeps room)
+open-holds r a keeps room = by-test (r .discarding) (overlong-open r a keeps room) (gathering-open r a keeps room)
 
 pub closed-form : (r : Reader) (a xs : List ℕ) → Rules r → mostGathered ≤ length a → run (held r a) xs ≡ closed (call (openPiece r a) xs) a
 closed-form r a xs keeps room = ap (λ h. run h xs) (open-holds r a keeps room) ∙ call-closed xs (openPiece r a) a room

@@ -38,32 +38,32 @@ over-length g a room =
 
 -- ---- the two cases of a state
 
-pub going : (p a : List ℕ) → length (gathered p) ≤ mostGathered
+pub gathering-state : (p a : List ℕ) → length (gathered p) ≤ mostGathered
     → holding p a ≡ held (gathering (length (gathered p)) (cutEscape p)) (gathered p ++ drop (length (gathered p)) a)
 unfolding holding readerAfter
-going p a few =
+gathering-state p a few =
     ap₂ held (ap (λ t. cond t overlong (gathering (length (gathered p)) (cutEscape p))) (le-ltb mostGathered (length (gathered p)) few)) (over-few (gathered p) a few)
 
 -- with what is known of the escape
-going-with : (p a : List ℕ) (e : Bool) → cutEscape p ≡ e → length (gathered p) ≤ mostGathered
+gathering-with : (p a : List ℕ) (e : Bool) → cutEscape p ≡ e → length (gathered p) ≤ mostGathered
     → holding p a ≡ held (gathering (length (gathered p)) e) (gathered p ++ drop (length (gathered p)) a)
-going-with p a e t few = going p a few ∙ ap (λ z. held (gathering (length (gathered p)) z) (gathered p ++ drop (length (gathered p)) a)) t
+gathering-with p a e t few = gathering-state p a few ∙ ap (λ z. held (gathering (length (gathered p)) z) (gathered p ++ drop (length (gathered p)) a)) t
 
-pub thrown : (p a : List ℕ) → mostGathered < length (gathered p) → holding p a ≡ held overlong (over (gathered p) a)
+pub overlong-state : (p a : List ℕ) → mostGathered < length (gathered p) → holding p a ≡ held overlong (over (gathered p) a)
 unfolding holding readerAfter
-thrown p a many =
+overlong-state p a many =
     ap (λ t. held (cond t overlong (gathering (length (gathered p)) (cutEscape p))) (over (gathered p) a)) (lt-ltb mostGathered (length (gathered p)) many)
 
 by-length : {P : Type 0} (p : List ℕ) → (mostGathered < length (gathered p) → P) → (length (gathered p) ≤ mostGathered → P) → P
 by-length p many few = by-test (ltb mostGathered (length (gathered p))) (λ t. many (ltb-true _ _ t)) (λ t. few (ltb-false _ _ t))
 
 -- a state that a piece with the same octets leaves too
-going-as : (p q a : List ℕ) (e : Bool) → Adds p q [] e → length (gathered p) ≤ mostGathered
+gathering-as : (p q a : List ℕ) (e : Bool) → Adds p q [] e → length (gathered p) ≤ mostGathered
     → held (gathering (length (gathered p)) e) (gathered p ++ drop (length (gathered p)) a) ≡ holding q a
-going-as p q a e d few =
+gathering-as p q a e d few =
     let same : gathered q ≡ gathered p = d .octets ∙ append-nil (gathered p) in
     sym
-    (going q a (rw same few)
+    (gathering-state q a (rw same few)
     ∙ ap₂ (λ g t. held (gathering (length g) t) (g ++ drop (length g) a)) same (d .cut))
 
 -- an octet is gathered
@@ -82,12 +82,12 @@ gathers p q a x e d room few =
     ∙ set-at g _ _ x n refl
     ∙ sym (append-assoc g (x ∷ []) (drop (suc n) a))
     ∙ ap₂ (λ l k. l ++ drop k a) (sym (d .octets)) (sym (add-one n) ∙ sym size) in
-    simp t (ap₂ held (ap₂ gathering (sym size) (sym (d .cut))) stored ∙ sym (going q a (omega arith))))
+    simp t (ap₂ held (ap₂ gathering (sym size) (sym (d .cut))) stored ∙ sym (gathering-state q a (omega arith))))
     (λ t.
     let full = ltb-false n mostGathered t in
     simp t
     (sym
-    (thrown q a (omega arith)
+    (overlong-state q a (omega arith)
     ∙ ap (held overlong) (ap (λ l. over l a) (d .octets) ∙ over-more g (x ∷ []) a full ∙ over-few g a few))))
 
 -- ---- an octet that is no flag
@@ -98,33 +98,33 @@ ignored p a b many =
     let longer : length (gathered p) ≤ length (gathered (p ++ (b ∷ []))) =
     omega (arith, ap length (gathered-append p (b ∷ [])) ∙ length-append (gathered p) _) in
     sym
-    (thrown (p ++ (b ∷ [])) a (omega arith)
+    (overlong-state (p ++ (b ∷ [])) a (omega arith)
     ∙ ap (held overlong) (ap (λ l. over l a) (gathered-append p (b ∷ [])) ∙ over-more (gathered p) _ a (omega arith)))
 
 skipped-after : (p a : List ℕ) (b : ℕ) → isSkipped b ≡ true → holding p a ≡ holding (p ++ (b ∷ [])) a
 skipped-after p a b s =
-    by-length p (λ many. thrown p a many ∙ ignored p a b many) (λ few. going p a few ∙ going-as p _ a _ (skipped-adds p b s) few)
+    by-length p (λ many. overlong-state p a many ∙ ignored p a b many) (λ few. gathering-state p a few ∙ gathering-as p _ a _ (skipped-adds p b s) few)
 
 content-after : (p a : List ℕ) (b : ℕ) → isSkipped b ≡ false → mostGathered ≤ length a → content (holding p a) (isEscape b) b ≡ holding (p ++ (b ∷ [])) a
 unfolding content meant pends
 content-after p a b s room =
-    by-length p (λ many. ap (λ h. content h (isEscape b) b) (thrown p a many) ∙ ignored p a b many)
+    by-length p (λ many. ap (λ h. content h (isEscape b) b) (overlong-state p a many) ∙ ignored p a b many)
     (λ few.
     by-test (cutEscape p)
-    (λ t. ap (λ h. content h (isEscape b) b) (going-with p a true t few) ∙ gathers p _ a (bitXor b 0x20) true (content-adds p b true t s) room few)
+    (λ t. ap (λ h. content h (isEscape b) b) (gathering-with p a true t few) ∙ gathers p _ a (bitXor b 0x20) true (content-adds p b true t s) room few)
     (λ t.
     let adds = content-adds p b false t s in
-    ap (λ h. content h (isEscape b) b) (going-with p a false t few)
-    ∙ by-test (isEscape b) (λ e. simp e (going-as p _ a true (rw e at adds) few)) (λ e. simp e (gathers p _ a b false (rw e at adds) room few))))
+    ap (λ h. content h (isEscape b) b) (gathering-with p a false t few)
+    ∙ by-test (isEscape b) (λ e. simp e (gathering-as p _ a true (rw e at adds) few)) (λ e. simp e (gathers p _ a b false (rw e at adds) room few))))
 
 -- ---- a flag
 
 pub flag-verdict : (p a : List ℕ) → flagFate (holding p a) ≡ verdict p
 unfolding flagFate verdict
 flag-verdict p a =
-    by-length p (λ many. ap flagFate (thrown p a many) ∙ simp (lt-ltb mostGathered (length (gathered p)) many))
+    by-length p (λ many. ap flagFate (overlong-state p a many) ∙ simp (lt-ltb mostGathered (length (gathered p)) many))
     (λ few.
-    ap flagFate (going p a few)
+    ap flagFate (gathering-state p a few)
     ∙ simp (le-ltb mostGathered (length (gathered p)) few)
     (ap (λ l. cond (cutEscape p) CutEscape (cond (eqb (length (gathered p)) 0) Unfinished (judged l))) (take-append-seam (gathered p) _)))
 

@@ -1,4 +1,4 @@
-// The frame check. CRC-16/IBM-SDLC is its entry in the published catalogue of CRCs: check value 906e, residue f0b8.
+// The frame check. CRC-16/IBM-SDLC is its entry in the catalogue of CRCs, with check value 906e and residue f0b8.
 use crate::show;
 use hdlc::fcs16;
 use libc::STDOUT_FILENO;
@@ -8,18 +8,19 @@ pub fn run() {
     line(b"123456789");
     // The start value, complemented.
     line(b"");
-    // One lookup in RFC 1662's table (section C.2): the complement of 00ff xor table[ff xor octet].
-    // table[00] is 0000: the complement of 00ff.
+    // One octet, worked by hand: the register ffff xor the octet, then eight bits, each a half and, for a 1 that goes out, xor 8408.
+    // The answer is the complement.
+    // ff00: eight 0s, 00ff.
     line(b"\xff");
-    // table[ff] is 0f78: the complement of 0f87.
+    // ffff: 1 fbf7, 1 f9f3, 1 f8f1, 1 f870, four 0s 0f87.
     line(b"\x00");
-    // table[01] is 1189: the complement of 1176.
+    // ff01: 1 fb88, three 0s 1f71, 1 8bb0, three 0s 1176.
     line(b"\xfe");
-    // table[02] is 2312: the complement of 23ed.
+    // ff02: 0 7f81, 1 bbc8, three 0s 1779, 1 8fb4, two 0s 23ed.
     line(b"\xfd");
-    // table[03] is 329b: the complement of 3264.
+    // ff03: 1 fb89, 1 f9cc, two 0s 3e73, 1 9b31, 1 c990, two 0s 3264.
     line(b"\xfc");
-    // table[80] is 8408: the complement of 84f7.
+    // ff80: seven 0s 01ff, 1 84f7.
     line(b"\x7f");
     // Octets and then their own check, low octet first, always leave the residue f0b8, whose complement is 0f47.
     line(b"123456789\x6e\x90");

@@ -1,4 +1,4 @@
-// Frames as they are written. The check of each body is that of the table-driven code in RFC 1662, section C.2.
+// Frames as they are written. Each body's check was worked out apart from this code, an octet at a time by a table of 256.
 use crate::show;
 use hdlc::Reader;
 use hdlc::write_frame;

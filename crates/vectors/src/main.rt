@@ -1,5 +1,5 @@
 // Published vectors, run through the code. Each line says what went in and what came out; the file stdout holds what must come out, from
-// the sources that the comments name and from 01's tables, never from this program.
+// the sources that the comments name and from 01's rules, never from this program.
 mod checks;
 mod frames;
 mod integers;

@@ -34,7 +34,7 @@ small : (c : tie.After-shared-slice-known Inv-loop μ-loop) → c .before .befor
 small c =
     let at-loop = c .before .before in
     let a = at-loop .before .args in
-    le-small (a .octets .now) (a .at) (a .width) (at-loop .before .pre .1) (λ k. c .shared-slice-known .given k .fits) (at-loop .loop .i) _ (c .before .loop-test .taken)
+    le-small (a .octets .now) (a .at) (a .width) (at-loop .before .pre .1) (λ k. c .shared-slice-known .given k .fits) (at-loop .loop .i) _ (omega arith)
     (at-loop .before .pre .0) (at-loop .loop .inv .1)
 
 mul-n : tie.Need-mul-n Inv-loop μ-loop
@@ -50,7 +50,7 @@ loop-again : tie.Need-loop-again Inv-loop μ-loop
 loop-again c =
     let at-loop = c .before .before in
     let a = at-loop .before .args in
-    (omega arith, le-step (a .octets .now) (a .at) (a .width) (at-loop .before .pre .1) (at-loop .loop .i) _ (c .before .loop-test .taken) (at-loop .loop .inv .0) (at-loop .loop .inv .1))
+    (omega arith, le-step (a .octets .now) (a .at) (a .width) (at-loop .before .pre .1) (at-loop .loop .i) _ (omega arith) (at-loop .loop .inv .0) (at-loop .loop .inv .1))
 
 returns : tie.Need-returns Inv-loop μ-loop
 unfolding leAt
