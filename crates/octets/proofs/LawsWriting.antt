@@ -8,7 +8,7 @@ use lib.ListN.{length, set, length-append}
 use lib.Seq.{sets}
 use Rattle.octets.specs.Writing.{Wrote}
 
-sets-append : (xs l : List ℕ) (at : ℕ) (ys : List ℕ) → sets (sets l at xs) (at + length xs) ys ≡ sets l at (xs ++ ys)
+pub sets-append : (xs l : List ℕ) (at : ℕ) (ys : List ℕ) → sets (sets l at xs) (at + length xs) ys ≡ sets l at (xs ++ ys)
 sets-append [] l at ys = ap (λ k. sets l k ys) (add-zero at)
 sets-append (x ∷ xs) l at ys =
     let e : at + suc (length xs) ≡ suc at + length xs = omega arith in

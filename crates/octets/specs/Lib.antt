@@ -2,3 +2,4 @@ pub mod Octets
 pub mod Runs
 pub mod LittleEndian
 pub mod Writing
+pub mod Finding

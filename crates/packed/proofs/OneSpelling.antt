@@ -57,6 +57,23 @@ spelled (suc k) at n next (x ∷ xs) o e =
     let more : n / 128 ≡ m = omega arith in
     rw (packed-more k n (omega arith), low, more) (rw (pow-succ' 128 k) (omega arith), omega arith, omega arith, ap (λ ys. x ∷ ys) (rest .3))))
 
+-- a reading goes on, and stays within its octets
+placed : (k at n next : ℕ) (xs : List ℕ) → numberIn k at xs ≡ Number n next → (at < next) × (next ≤ at + length xs)
+unfolding numberIn
+placed zero at n next xs e = never e
+placed (suc k) at n next [] e = never e
+placed (suc k) at n next (x ∷ xs) e =
+    by-test (ltb x 128)
+    (λ t. let e' = rw t at e in
+    let after : next ≡ at + 1 = cc in
+    omega arith)
+    (λ t. from-joined (x - 128) 128 n next (numberIn k (at + 1) xs) (rw t at e)
+    (λ m r some sum. let rest = placed k (at + 1) m next xs r in omega arith))
+
+pub place-after : (xs : List ℕ) (at n next : ℕ) → packedAt xs at ≡ Number n next → (at < next) × (next ≤ length xs)
+unfolding packedAt
+place-after xs at n next e = let p = placed 3 at n next (drop at xs) e in omega (arith, length-drop at xs)
+
 pub one-spelling : (xs : List ℕ) (at n next : ℕ) → Octets xs → packedAt xs at ≡ Number n next → Spelled xs at n next
 unfolding packedAt packed
 one-spelling xs at n next o e =

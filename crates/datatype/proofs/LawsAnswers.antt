@@ -1,0 +1,113 @@
+-- What the public call answers, by what its checks and readings gave. Assumes nothing.
+use mathlib.Core.Path.{_≡_, refl, sym, ap, _∙_}
+use mathlib.Core.Bool.{true, false}
+use mathlib.Core.List.{List, [], _∷_, _++_, append-nil}
+use Prim.Native.Nat.{ℕ, _+_, _*_, _≤_, _<_}
+use native.Mathlib.Omega.{arith}
+use native.Mathlib.Nat.{zero-add}
+use borrow.Author.Tests.{lt-ltb, le-ltb}
+use lib.ListN.{length, drop, length-append}
+use lib.Seq.{sets, sets-eq}
+use Rattle.datatype.specs.declared.read.Read.{Read}
+use Rattle.datatype.specs.declared.read.Read.the-variants as read
+use Rattle.datatype.specs.declared.read.Answer.{Answer}
+use Rattle.datatype.specs.declared.read.Answer.the-variants as answer
+use Rattle.datatype.specs.Grammar.{Items}
+use Rattle.datatype.specs.Parse.{Parsed, malformed, parsed, typeOf, isType}
+use Rattle.datatype.specs.Reading.{Leaf, numbers, Reading, misfit, upto, filling, partReads}
+use Rattle.datatype.specs.Answers.{Result, refused, leaves, listed, result, told, tells, filled}
+use Rattle.datatype.specs.Calls.{PartFrom, Room, Did, fillingTo, ReadsPart}
+use Rattle.datatype.proofs.LawsGrammar.{end-shut}
+use Rattle.datatype.proofs.Grammatical.{accepted, complete}
+use Rattle.datatype.proofs.LawsReading.{part-took, filling-fit}
+use Rattle.datatype.proofs.LawsReader.{did-misfit, did-upto, did-filling, length-numbers}
+
+-- the two equations of the public call
+abbrev pub Answered : List ℕ → List ℕ → List ℕ → List ℕ → Answer → Type 0
+Answered types payload list list′ a =
+    (told a ≡ tells (result (typeOf types) payload (length list))) × (list′ ≡ filled list (result (typeOf types) payload (length list)))
+
+pub answers-malformed : (types payload list : List ℕ) → isType (typeOf types) ≡ false → Answered types payload list list answer.Malformed
+unfolding result tells filled
+answers-malformed types payload list e = go (typeOf types) e
+  where
+    go : (p : Parsed) → isType p ≡ false → (told answer.Malformed ≡ tells (result p payload (length list))) × (list ≡ filled list (result p payload (length list)))
+    go malformed e = (refl, refl)
+    go (parsed t s) e = let z : _≡_ {A = ℕ} 0 1 = cc in absurd (omega arith)
+
+-- a refusal leaves the list as it was
+refuses : (types payload list list′ : List ℕ) (a : Answer) (n : ℕ) → result (typeOf types) payload (length list) ≡ refused n → list′ ≡ list
+    → told a ≡ record { number = n; count = 0 } → Answered types payload list list′ a
+unfolding tells filled
+refuses types payload list list′ a n e same number = rw e (number, same)
+
+-- a list of which none was lent
+none-lent : (ys list : List ℕ) → length ys ≡ 0 → ys ++ list ≡ list
+none-lent [] list e = refl
+none-lent (y ∷ ys) list e = absurd (omega arith)
+
+module _ (types payload list : List ℕ) (typed : isType (typeOf types) ≡ true) where
+  -- the tree of the string
+  tree : (t : Items) × (typeOf types ≡ parsed t []) × PartFrom types 4 t × (length types ≤ 64)
+  tree =
+      let w = accepted types typed in (
+        w .0,
+        complete types (w .0) (w .1),
+        record { behind = []; printed = sym (append-nil _ ∙ w .1 .printed); rules = w .1 .rules; ends = end-shut },
+        w .1 .short,
+      )
+
+  pub answers-long : 1300 < length payload → Answered types payload list list answer.Misfit
+  unfolding result
+  answers-long h = refuses types payload list list answer.Misfit 16 (rw (tree .1, lt-ltb _ _ h)) refl refl
+
+  module _ (short : length payload ≤ 1300) where
+    pub readable : ((t : Items) × PartFrom types 4 t) × Room types payload 0 0 0
+    readable =
+        ((tree .0, tree .2), record { few = tree .3; placed = omega arith; short = short; within = omega arith; counted = omega arith })
+
+    result-is : result (typeOf types) payload (length list) ≡ listed (length list) (filling (length payload) (partReads (tree .0) payload 0))
+    unfolding result
+    result-is = rw (tree .1, le-ltb _ _ short)
+
+    module _ (ys ys′ : List ℕ) (none : length ys′ ≡ 0) (r r′ : Read) (first : ReadsPart types 4 payload 0 ys ys′ 0 r) (fill : r′ ≡ fillingTo (length payload) r) where
+      did : Did (filling (length payload) (partReads (tree .0) payload 0)) ys ys′ 0 r′
+      did = rw fill (did-filling (length payload) (partReads (tree .0) payload 0) ys ys′ 0 r (first (tree .0) (tree .2)))
+
+      pub answers-misfit : r′ ≡ read.Misfit → Answered types payload list (ys′ ++ list) answer.Misfit
+      unfolding listed
+      answers-misfit e =
+          refuses types payload list (ys′ ++ list) answer.Misfit 16
+          (result-is ∙ rw (did-misfit (filling (length payload) (partReads (tree .0) payload 0)) ys ys′ 0 (rw e at did)))
+          (none-lent ys′ list none) refl
+
+      module _ (p n : ℕ) (e : r′ ≡ read.Upto p n) where
+        found : (ls : List Leaf) × (filling (length payload) (partReads (tree .0) payload 0) ≡ upto p ls) × (n ≡ 0 + length ls) × (ys′ ≡ sets ys (3 * 0) (numbers ls))
+        found = did-upto (filling (length payload) (partReads (tree .0) payload 0)) ys ys′ 0 p n (rw e at did)
+
+        -- so that three numbers a leaf can be counted
+        pub few-leaves : n ≤ 1301
+        few-leaves =
+            let f = filling-fit (length payload) (partReads (tree .0) payload 0) p (found .0) (found .1) in
+            let g = part-took (tree .0) 4 false payload 0 p (found .0) (tree .2 .rules) (omega arith) (f .0) in
+            omega (arith, g .within, g .few, found .2)
+
+        pub answers-short : length (ys′ ++ list) < 3 * n → Answered types payload list (ys′ ++ list) answer.ShortList
+        unfolding listed
+        answers-short h =
+            let room : length list < 3 * length (found .0) = omega (arith, length-append ys′ list, found .2) in
+            refuses types payload list (ys′ ++ list) answer.ShortList 17 (result-is ∙ rw (found .1, lt-ltb _ _ room)) (none-lent ys′ list none) refl
+
+        pub answers-leaves : 3 * n ≤ length (ys′ ++ list) → (r₂ : Read) (list₂ : List ℕ) → ReadsPart types 4 payload 0 (ys′ ++ list) list₂ 0 r₂
+            → Answered types payload list list₂ (answer.Leaves n)
+        unfolding listed tells filled
+        answers-leaves h r₂ list₂ second =
+            let ls = found .0 in
+            let f = filling-fit (length payload) (partReads (tree .0) payload 0) p ls (found .1) in
+            let room : 3 * length ls ≤ length list = omega (arith, length-append ys′ list, found .2) in
+            let d : (r₂ ≡ read.Upto p (0 + length ls)) × (list₂ ≡ sets (ys′ ++ list) (3 * 0) (numbers ls)) = rw (f .0) at (second (tree .0) (tree .2)) in
+            let count : n ≡ length ls = omega (arith, found .2) in
+            let fits : 0 + length (numbers ls) ≤ length list = omega (arith, length-numbers ls) in
+            let held : list₂ ≡ numbers ls ++ drop (length (numbers ls)) list =
+            d .1 ∙ rw (none-lent ys′ list none) (sets-eq (numbers ls) list 0 fits ∙ ap (λ k. numbers ls ++ drop k list) (zero-add (length (numbers ls)))) in
+            rw (result-is, found .1, le-ltb _ _ room) (ap (λ k. record { number = 0; count = k }) count, held)

@@ -1,0 +1,46 @@
+-- Laws of printed trees. Assumes nothing.
+use mathlib.Core.Path.{_≡_, refl, sym, _∙_}
+use mathlib.Core.Bool.{Bool, true, false}
+use mathlib.Core.List.{List, [], _∷_, _++_, append-assoc}
+use Prim.Native.Nat.{ℕ, _<_}
+use native.Mathlib.Omega.{arith}
+use borrow.Author.Tests.{eqb-true, ne-eqb}
+use lib.Dec.{eqb}
+use Rattle.datatype.specs.declared.kind.Value.{Value}
+use Rattle.datatype.specs.declared.kind.Kind.the-variants as kind
+use Rattle.datatype.specs.Kinds.{kindOf}
+use Rattle.datatype.specs.Grammar.{Item, Items, value, rest, struct, array, end, more, print, printItem, ItemRules, PartRules}
+use Rattle.datatype.specs.Parse.{closed}
+
+pub bracket-shut : (r : List ℕ) → closed (41 ∷ r) ≡ true
+unfolding closed
+bracket-shut r = refl
+
+pub end-shut : closed [] ≡ true
+unfolding closed
+end-shut = refl
+
+-- a closing bracket is no letter
+pub not-bracket : (c : ℕ) (v : Value) → kindOf c ≡ kind.Value v → c ≡ 41 → ⊥
+unfolding kindOf
+not-bracket c v k e = let k′ = rw e at k in let z : _≡_ {A = ℕ} 0 1 = cc in omega arith
+
+-- no part ends where an item stands
+pub item-open : (i : Item) (left : ℕ) (inArray : Bool) (r : List ℕ) → ItemRules i left inArray → closed (printItem i ++ r) ≡ false
+unfolding closed printItem ItemRules
+item-open (value c v) left inArray r k = ne-eqb c 41 (not-bracket c v k)
+item-open rest left inArray r k = refl
+item-open (struct t) left inArray r k = refl
+item-open (array t) left inArray r k = refl
+
+-- what may stand directly inside A(..) may stand anywhere
+pub relax : (t : Items) (left : ℕ) → PartRules t left true → PartRules t left false
+unfolding PartRules
+relax end left k = tt
+relax (more i t) left k = (relax-item i left (k .0), k .1, relax t left (k .2))
+  where
+    relax-item : (i : Item) (left : ℕ) → ItemRules i left true → ItemRules i left false
+    relax-item (value c v) left k = k
+    relax-item rest left k = refl
+    relax-item (struct t) left k = k
+    relax-item (array t) left k = (refl, k .1, k .2, k .3)

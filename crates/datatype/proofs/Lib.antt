@@ -1,0 +1,11 @@
+pub mod LawsKinds
+pub mod LawsGrammar
+pub mod LawsParse
+pub mod LawsCheck
+pub mod LawsBrackets
+pub mod LawsLeaves
+pub mod LawsReading
+pub mod LawsReader
+pub mod Grammatical
+pub mod LawsAnswers
+pub mod OctetsTaken

@@ -1,0 +1,89 @@
+use mathlib.Core.Path.{sym, _∙_}
+use mathlib.Core.List.{[]}
+use native.Mathlib.Omega.{arith}
+use borrow.Author.Needs.{needs}
+use Rattle.datatype.proofs.LawsAnswers.{answers-malformed, answers-long, readable, answers-misfit, few-leaves, answers-short, answers-leaves}
+use Rattle.datatype.proofs.read.read_typed.Statement.{statement}
+use Rattle.datatype.proofs.read.read_typed.Tie as tie
+use Rattle.datatype.proofs.read.read_typed.Reads as reads
+use Rattle.datatype.proofs.read.read_typed.Lts as lts
+use Rattle.datatype.proofs.check.is_type.Reads as is-type-reads
+use Rattle.datatype.proofs.read.filling.Reads as filling-reads
+use Rattle.datatype.proofs.read.read_sequence.Reads as read-sequence-reads
+
+is-type-requires : tie.Need-is-type-requires
+is-type-requires c κs = search needs
+
+returns : tie.Need-returns
+returns c = answers-long _ _ _ (sym (c .before .before .is-type .ensures) ∙ c .before .if1 .taken) (c .if2 .taken)
+
+sub-read-sequence : tie.Need-sub-read-sequence
+sub-read-sequence c = search needs
+
+part-read-sequence-start : tie.Need-part-read-sequence-start
+part-read-sequence-start c = search needs
+
+part-read-sequence-end : tie.Need-part-read-sequence-end
+part-read-sequence-end c = search needs
+
+read-sequence-requires : tie.Need-read-sequence-requires
+read-sequence-requires c κs = readable _ (c .before .before .before .before .before .before .before .args .payload .now) [] (sym (c .before .before .before .is-type .ensures) ∙ c .before .before .if1 .taken) (c .before .if2 .left)
+
+filling-requires : tie.Need-filling-requires
+filling-requires c κs = search needs
+
+enum-told : tie.Need-enum-told
+enum-told c = search needs
+
+enum-known-leaves : tie.Need-enum-known-leaves
+enum-known-leaves c = search needs
+
+mul-if3 : tie.Need-mul-if3
+mul-if3 c = omega (arith, few-leaves _ _ [] (sym (c .before .before .before .before .before .before .before .before .before .before .is-type .ensures) ∙ c .before .before .before .before .before .before .before .before .before .if1 .taken) (c .before .before .before .before .before .before .before .before .if2 .left) _ _ (c .before .before .before .before .before .before .read-sequence .kept .1 .1 .1 .1 .1 .0) _ _ (c .before .before .before .before .before .before .read-sequence .ensures) (c .before .before .before .filling .ensures) _ _ (c .before .leaves .given .1))
+
+same-length : tie.Need-same-length
+same-length c = search needs
+
+returns-2 : tie.Need-returns-2
+returns-2 c = answers-short _ _ _ (sym (c .before .before .before .before .before .before .before .before .before .before .before .is-type .ensures) ∙ c .before .before .before .before .before .before .before .before .before .before .if1 .taken) (c .before .before .before .before .before .before .before .before .before .if2 .left) _ _ (c .before .before .before .before .before .before .before .read-sequence .kept .1 .1 .1 .1 .1 .0) _ _ (c .before .before .before .before .before .before .before .read-sequence .ensures) (c .before .before .before .before .filling .ensures) _ _ (c .before .before .leaves .given .1) (c .if3 .taken)
+
+read-sequence-requires-2 : tie.Need-read-sequence-requires-2
+read-sequence-requires-2 c κs = readable _ (c .before .before .before .before .before .before .before .before .before .before .before .before .before .before .before .before .args .payload .now) [] (sym (c .before .before .before .before .before .before .before .before .before .before .before .before .is-type .ensures) ∙ c .before .before .before .before .before .before .before .before .before .before .before .if1 .taken) (c .before .before .before .before .before .before .before .before .before .before .if2 .left)
+
+same-length-2 : tie.Need-same-length-2
+same-length-2 c = search needs
+
+returns-3 : tie.Need-returns-3
+returns-3 c = answers-misfit _ _ _ (sym (c .before .before .before .before .before .before .before .before .before .is-type .ensures) ∙ c .before .before .before .before .before .before .before .before .if1 .taken) (c .before .before .before .before .before .before .before .if2 .left) _ _ (c .before .before .before .before .before .read-sequence .kept .1 .1 .1 .1 .1 .0) _ _ (c .before .before .before .before .before .read-sequence .ensures) (c .before .before .filling .ensures) (c .enum-told .given .1)
+
+same-length-3 : tie.Need-same-length-3
+same-length-3 c = search needs
+
+returns-4 : tie.Need-returns-4
+returns-4 c = answers-leaves _ _ _ (sym (c .before .before .before .before .before .before .before .before .before .before .before .before .before .before .before .is-type .ensures) ∙ c .before .before .before .before .before .before .before .before .before .before .before .before .before .before .if1 .taken) (c .before .before .before .before .before .before .before .before .before .before .before .before .before .if2 .left) _ _ (c .before .before .before .before .before .before .before .before .before .before .before .read-sequence .kept .1 .1 .1 .1 .1 .0) _ _ (c .before .before .before .before .before .before .before .before .before .before .before .read-sequence .ensures) (c .before .before .before .before .before .before .before .before .filling .ensures) _ _ (c .before .before .before .before .before .before .leaves .given .1) (c .before .before .before .before .if3 .left) _ _ (c .before .before .read-sequence2 .ensures)
+
+returns-5 : tie.Need-returns-5
+returns-5 c = answers-malformed _ _ _ (sym (c .before .is-type .ensures) ∙ c .if1 .left)
+
+pub read-typed-spec : {M : Type 1} → statement M
+read-typed-spec =
+    tie.close
+    (tie.spec
+    is-type-requires
+    returns
+    sub-read-sequence
+    part-read-sequence-start
+    part-read-sequence-end
+    read-sequence-requires
+    filling-requires
+    enum-told
+    enum-known-leaves
+    mul-if3
+    same-length
+    returns-2
+    read-sequence-requires-2
+    same-length-2
+    returns-3
+    same-length-3
+    returns-4
+    returns-5)

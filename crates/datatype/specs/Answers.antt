@@ -1,0 +1,51 @@
+-- What the reader of typed payloads answers (01, Octets on the wire, the table of numbers; Type strings).
+use mathlib.Core.Bool.{cond}
+use mathlib.Core.List.{List, _++_}
+use Prim.Native.Nat.{ℕ, _*_}
+use lib.Dec.{ltb}
+use lib.ListN.{length, drop}
+use Rattle.datatype.specs.declared.read.Answer.{Answer}
+use Rattle.datatype.specs.declared.read.Answer.the-variants.{Leaves, Malformed, Misfit, ShortList}
+use Rattle.datatype.specs.Parse.{Parsed, malformed, parsed}
+use Rattle.datatype.specs.Reading.{Leaf, numbers, Reading, misfit, upto, filling, partReads}
+
+-- "a payload at most 1,300 octets"
+abbrev pub mostPayload : ℕ
+mostPayload = 1300
+
+-- a refusal by its number, or leaves
+pub data Result : Type 0 where
+  refused : ℕ → Result
+  leaves : List Leaf → Result
+
+-- "17 means that the list has fewer than three numbers for each leaf"
+unfoldable pub listed : ℕ → Reading → Result
+listed room misfit = refused 16
+listed room (upto p ls) = cond (ltb room (3 * length ls)) (refused 17) (leaves ls)
+
+-- "Order 15, 16, 17", for a list of so many numbers
+unfoldable pub result : Parsed → List ℕ → ℕ → Result
+result malformed payload room = refused 15
+result (parsed t s) payload room =
+    cond (ltb mostPayload (length payload)) (refused 16) (listed room (filling (length payload) (partReads t payload 0)))
+
+-- 01's number of an answer and its count of leaves: "answer 0 on success, this one with the number of leaves"; refusals "return zero
+-- for every count"
+pub record Told : Type 0 where
+  pub number : ℕ
+  pub count : ℕ
+
+abbrev pub told : Answer → Told
+told (Leaves n) = record { number = 0; count = n }
+told Malformed = record { number = 15; count = 0 }
+told Misfit = record { number = 16; count = 0 }
+told ShortList = record { number = 17; count = 0 }
+
+unfoldable pub tells : Result → Told
+tells (refused n) = record { number = n; count = 0 }
+tells (leaves ls) = record { number = 0; count = length ls }
+
+-- "numbers past the last leaf keep what they held"; refusals "write nothing"
+unfoldable pub filled : List ℕ → Result → List ℕ
+filled list (refused n) = list
+filled list (leaves ls) = numbers ls ++ drop (length (numbers ls)) list

@@ -1,0 +1,68 @@
+-- What a tree reads in a payload (01, Type strings).
+use mathlib.Core.Bool.{cond}
+use mathlib.Core.List.{List, [], _∷_, _++_}
+use Prim.Native.Nat.{ℕ, zero, suc, _-_}
+use lib.Dec.{eqb, ltb}
+use lib.ListN.{length, take}
+use Rattle.octets.specs.Runs.{each}
+use Rattle.datatype.specs.declared.leaf.Span.{Span}
+use Rattle.datatype.specs.declared.leaf.Span.the-variants.{At, Misfit}
+use Rattle.datatype.specs.Grammar.{Item, Items, value, rest, struct, array, end, more}
+use Rattle.datatype.specs.Leaves.{spanOf, countedAt}
+
+-- "three a leaf: ASCII letter code, start in the payload, length"
+pub record Leaf : Type 0 where
+  pub letter : ℕ
+  pub start : ℕ
+  pub size : ℕ
+
+abbrev pub leafOf : ℕ → ℕ → ℕ → Leaf
+leafOf c s n = record { letter = c; start = s; size = n }
+
+-- the numbers of leaves, in order
+unfoldable pub numbers : List Leaf → List ℕ
+numbers = each (λ leaf. leaf .letter ∷ leaf .start ∷ leaf .size ∷ [])
+
+-- the payload does not fit, or the place reached and the leaves up to it
+pub data Reading : Type 0 where
+  misfit : Reading
+  upto : ℕ → List Leaf → Reading
+
+unfoldable pub after : List Leaf → Reading → Reading
+after ls misfit = misfit
+after ls (upto p ms) = upto p (ls ++ ms)
+
+-- one reading, and another from where it stopped
+unfoldable pub andThen : Reading → (ℕ → Reading) → Reading
+andThen misfit go = misfit
+andThen (upto p ls) go = after ls (go p)
+
+-- "A reading consumes everything, inside each t too": it stops at the part's end
+unfoldable pub filling : ℕ → Reading → Reading
+filling stop misfit = misfit
+filling stop (upto p ls) = cond (eqb p stop) (upto p ls) misfit
+
+unfoldable pub leafReads : ℕ → Span → Reading
+leafReads letter Misfit = misfit
+leafReads letter (At start size next) = upto next (leafOf letter start size ∷ [])
+
+-- the contents of a t, `go` being how they are read from a start to an end
+unfoldable pub contents : Span → (ℕ → ℕ → Reading) → Reading
+contents Misfit go = misfit
+contents (At start size next) go = filling next (go start next)
+
+-- elements up to a place; the first number bounds them, and the octets there are enough, as no element takes none
+unfoldable pub elements : ℕ → (ℕ → Reading) → ℕ → ℕ → Reading
+elements zero go from stop = upto from []
+elements (suc n) go from stop = cond (ltb from stop) (andThen (go from) (λ p. elements n go p stop)) (upto from [])
+
+unfoldable mutual
+  pub itemReads : Item → List ℕ → ℕ → Reading
+  itemReads (value letter v) part from = leafReads letter (spanOf v part from)
+  itemReads rest part from = leafReads 68 (At from (length part - from) (length part))
+  itemReads (struct t) part from = contents (countedAt part from) (λ start stop. partReads t (take stop part) start)
+  itemReads (array t) part from = elements (length part - from) (λ p. partReads t part p) from (length part)
+
+  pub partReads : Items → List ℕ → ℕ → Reading
+  partReads end part from = upto from []
+  partReads (more i t) part from = andThen (itemReads i part from) (λ p. partReads t part p)

@@ -1,0 +1,109 @@
+// Where one value stands in a payload. `part` is the payload up to the end of the part that is read.
+use crate::kind::Value;
+use octets::find_octet;
+use octets::read_le;
+use packed::Packed;
+use packed::read_packed;
+ghost use mathlib.Core.Path.{_≡_};
+ghost use Prim.Native.Nat.{_≤_};
+ghost use lib.ListN.{length, drop};
+ghost use Rattle.octets.specs.Finding.{before};
+ghost use Rattle.packed.specs.Packed.{packedAt};
+ghost use Rattle.datatype.specs.Leaves.{fixedAt, boolAt, numberSpan, textAt, countedAt, spanOf};
+
+// A value's octets and the place after it, or that it does not fit.
+pub enum Span {
+    Misfit,
+    At {
+        start: usize,
+        size: usize,
+        next: usize,
+    },
+}
+
+pub fn span_of(value: Value, part: &[u8], from: usize) -> Span
+    requires { ⌜ from ≤ length (now part) ⌝ }
+    ensures { λ r. ⌜ r ≡ spanOf value (now (part .entry)) from ⌝ }
+{
+    match value {
+        Value::Bool => bool_at(part, from),
+        Value::Fixed(width) => fixed_at(width, part, from),
+        Value::Packed => packed_at(part, from),
+        Value::Text => text_at(part, from),
+        Value::Counted => counted_at(part, from),
+    }
+}
+
+fn fixed_at(width: usize, part: &[u8], from: usize) -> Span
+    requires { ⌜ from ≤ length (now part) ⌝ }
+    ensures { λ r. ⌜ r ≡ fixedAt width (now (part .entry)) from ⌝ }
+{
+    if part.len() - from < width {
+        return Span::Misfit;
+    }
+    Span::At {
+        start: from,
+        size: width,
+        next: from + width,
+    }
+}
+
+fn bool_at(part: &[u8], from: usize) -> Span
+    requires { ⌜ from ≤ length (now part) ⌝ }
+    ensures { λ r. ⌜ r ≡ boolAt (now (part .entry)) from ⌝ }
+{
+    if from < part.len() {
+        if 1 < part[from] {
+            return Span::Misfit;
+        }
+    }
+    fixed_at(1, part, from)
+}
+
+fn packed_at(part: &[u8], from: usize) -> Span
+    ensures { λ r. ⌜ r ≡ numberSpan from (packedAt (now (part .entry)) from) ⌝ }
+{
+    match read_packed(part, from) {
+        Packed::Unreadable => Span::Misfit,
+        Packed::Number(_, next) => Span::At {
+            start: from,
+            size: next - from,
+            next: next,
+        },
+    }
+}
+
+fn text_at(part: &[u8], from: usize) -> Span
+    requires { ⌜ from ≤ length (now part) ⌝ }
+    ensures { λ r. ⌜ r ≡ textAt (before 0 (drop from (now (part .entry)))) (now (part .entry)) from ⌝ }
+{
+    let zero = find_octet(part, from, 0);
+    if zero < part.len() {
+        return Span::At {
+            start: from,
+            size: zero - from,
+            next: zero + 1,
+        };
+    }
+    Span::Misfit
+}
+
+// The octets behind a 16-bit count of them.
+pub fn counted_at(part: &[u8], from: usize) -> Span
+    requires { ⌜ from ≤ length (now part) ⌝ }
+    ensures { λ r. ⌜ r ≡ countedAt (now (part .entry)) from ⌝ }
+{
+    if part.len() - from < 2 {
+        return Span::Misfit;
+    }
+    let start = from + 2;
+    let size = read_le(part, from, 2) as usize;
+    if part.len() - start < size {
+        return Span::Misfit;
+    }
+    Span::At {
+        start: start,
+        size: size,
+        next: start + size,
+    }
+}
