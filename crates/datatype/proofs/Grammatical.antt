@@ -1,7 +1,7 @@
 -- PROMISE: the strings that are accepted are those of the grammar. Whatever tree is found prints to the string and keeps the rules; and
 -- every tree that keeps them and prints in at most 64 octets is found. Assumes nothing.
 use mathlib.Core.Path.{_≡_, refl, sym, ap, _∙_}
-use mathlib.Core.Bool.{Bool, true, false, cond}
+use mathlib.Core.Bool.{Bool, true, false}
 use mathlib.Core.List.{List, [], _∷_, _++_, append-assoc, append-nil}
 use Prim.Native.Nat.{ℕ, zero, suc, _-_, _<_, _≤_}
 use native.Mathlib.Omega.{arith}

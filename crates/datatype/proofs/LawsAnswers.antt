@@ -6,21 +6,21 @@ use Prim.Native.Nat.{ℕ, _+_, _*_, _≤_, _<_}
 use native.Mathlib.Omega.{arith}
 use native.Mathlib.Nat.{zero-add}
 use borrow.Author.Tests.{lt-ltb, le-ltb}
-use lib.ListN.{length, drop, length-append}
+use lib.ListN.{length, drop}
 use lib.Seq.{sets, sets-eq}
-use Rattle.datatype.specs.declared.read.Read.{Read}
-use Rattle.datatype.specs.declared.read.Read.the-variants as read
+use Rattle.datatype.specs.declared.list.Read.{Read}
+use Rattle.datatype.specs.declared.list.Read.the-variants as read
 use Rattle.datatype.specs.declared.read.Answer.{Answer}
 use Rattle.datatype.specs.declared.read.Answer.the-variants as answer
 use Rattle.datatype.specs.Grammar.{Items}
 use Rattle.datatype.specs.Parse.{Parsed, malformed, parsed, typeOf, isType}
-use Rattle.datatype.specs.Reading.{Leaf, numbers, Reading, misfit, upto, filling, partReads}
-use Rattle.datatype.specs.Answers.{Result, refused, leaves, listed, result, told, tells, filled}
+use Rattle.datatype.specs.Reading.{Leaf, numbers, upto, filling, partReads}
+use Rattle.datatype.specs.Answers.{refused, listed, result, told, tells, filled}
 use Rattle.datatype.specs.Calls.{PartFrom, Room, Did, fillingTo, ReadsPart}
 use Rattle.datatype.proofs.LawsGrammar.{end-shut}
 use Rattle.datatype.proofs.Grammatical.{accepted, complete}
 use Rattle.datatype.proofs.LawsReading.{part-took, filling-fit}
-use Rattle.datatype.proofs.LawsReader.{did-misfit, did-upto, did-filling, length-numbers}
+use Rattle.datatype.proofs.LawsDid.{did-misfit, did-upto, did-filling, length-numbers}
 
 -- the two equations of the public call
 abbrev pub Answered : List ℕ → List ℕ → List ℕ → List ℕ → Answer → Type 0
@@ -92,19 +92,19 @@ module _ (types payload list : List ℕ) (typed : isType (typeOf types) ≡ true
             let g = part-took (tree .0) 4 false payload 0 p (found .0) (tree .2 .rules) (omega arith) (f .0) in
             omega (arith, g .within, g .few, found .2)
 
-        pub answers-short : length (ys′ ++ list) < 3 * n → Answered types payload list (ys′ ++ list) answer.ShortList
+        pub answers-short : length list < 3 * n → Answered types payload list (ys′ ++ list) answer.ShortList
         unfolding listed
         answers-short h =
-            let room : length list < 3 * length (found .0) = omega (arith, length-append ys′ list, found .2) in
+            let room : length list < 3 * length (found .0) = omega (arith, found .2) in
             refuses types payload list (ys′ ++ list) answer.ShortList 17 (result-is ∙ rw (found .1, lt-ltb _ _ room)) (none-lent ys′ list none) refl
 
-        pub answers-leaves : 3 * n ≤ length (ys′ ++ list) → (r₂ : Read) (list₂ : List ℕ) → ReadsPart types 4 payload 0 (ys′ ++ list) list₂ 0 r₂
+        pub answers-leaves : 3 * n ≤ length list → (r₂ : Read) (list₂ : List ℕ) → ReadsPart types 4 payload 0 (ys′ ++ list) list₂ 0 r₂
             → Answered types payload list list₂ (answer.Leaves n)
         unfolding listed tells filled
         answers-leaves h r₂ list₂ second =
             let ls = found .0 in
             let f = filling-fit (length payload) (partReads (tree .0) payload 0) p ls (found .1) in
-            let room : 3 * length ls ≤ length list = omega (arith, length-append ys′ list, found .2) in
+            let room : 3 * length ls ≤ length list = omega (arith, found .2) in
             let d : (r₂ ≡ read.Upto p (0 + length ls)) × (list₂ ≡ sets (ys′ ++ list) (3 * 0) (numbers ls)) = rw (f .0) at (second (tree .0) (tree .2)) in
             let count : n ≡ length ls = omega (arith, found .2) in
             let fits : 0 + length (numbers ls) ≤ length list = omega (arith, length-numbers ls) in

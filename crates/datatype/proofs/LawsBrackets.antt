@@ -18,6 +18,7 @@ use Rattle.datatype.specs.declared.kind.Value.{Value}
 use Rattle.datatype.specs.Kinds.{kindOf}
 use Rattle.datatype.specs.Grammar.{Item, Items, value, rest, struct, array, end, more, printItem, print, ItemRules, PartRules}
 use Rattle.datatype.specs.Calls.{ItemFrom, InBrackets, EndsItem, EndsBrackets}
+use Rattle.datatype.proofs.LawsPlaces.{kindIs, item-first, inner-printed}
 use Rattle.datatype.proofs.kind.Kind.{the-type as kind-type}
 
 -- ---- open brackets
@@ -103,21 +104,8 @@ brackets-within xs at t b =
 pub brackets-here : (xs : List ℕ) (at : ℕ) → ((t : Items) × InBrackets (drop at xs) t) → at < length xs
 brackets-here xs at (t, b) = omega (arith, brackets-within xs at t b, past-least (drop at xs) 1)
 
--- ---- an item's letter
+-- ---- items with brackets and without
 
-pub front : (xs : List ℕ) (at c : ℕ) (s : List ℕ) → drop at xs ≡ c ∷ s → (at < length xs) × (getD xs at 0 ≡ c) × (drop (at + 1) xs ≡ s)
-front xs at c s e =
-    let h : at < length xs = omega (arith, length-drop at xs, ap length e) in
-    let d = drop-next xs at h in
-    (h, cc, cc)
-
-abbrev kindIn : Item → Kind
-kindIn (value letter v) = kind.Value v
-kindIn rest = kind.Rest
-kindIn (struct t) = kind.Struct
-kindIn (array t) = kind.Array
-
--- the kinds of the items in brackets
 abbrev pub bracketed : Kind → Bool
 bracketed (kind.Value v) = false
 bracketed kind.Rest = false
@@ -125,7 +113,14 @@ bracketed kind.Struct = true
 bracketed kind.Array = true
 bracketed kind.Other = false
 
--- the `_` of a `match` tells that the tag is one of the others
+-- the arms of a `match` tell which tags the kind may have
+pub tag-brackets : (k : Kind) → OneOf (2 ∷ 3 ∷ []) (tagOf kind-type k) → bracketed k ≡ true
+tag-brackets (kind.Value v) o = absurd (miss (2 ∷ 3 ∷ []) 0 tt o)
+tag-brackets kind.Rest o = absurd (miss (2 ∷ 3 ∷ []) 1 tt o)
+tag-brackets kind.Struct o = refl
+tag-brackets kind.Array o = refl
+tag-brackets kind.Other o = absurd (miss (2 ∷ 3 ∷ []) 4 tt o)
+
 pub tag-single : (k : Kind) → OneOf (0 ∷ 1 ∷ 4 ∷ []) (tagOf kind-type k) → bracketed k ≡ false
 tag-single (kind.Value v) o = refl
 tag-single kind.Rest o = refl
@@ -136,7 +131,7 @@ tag-single kind.Other o = refl
 clash : {P : Type 0} → true ≡ false → P
 clash e = let z : _≡_ {A = ℕ} 0 1 = cc in absurd (omega arith)
 
-single : (i : Item) → bracketed (kindIn i) ≡ false → length (printItem i) ≡ 1
+single : (i : Item) → bracketed (kindIs i) ≡ false → length (printItem i) ≡ 1
 unfolding printItem
 single (value letter v) e = refl
 single rest e = refl
@@ -144,43 +139,26 @@ single (struct t) e = clash e
 single (array t) e = clash e
 
 module _ (xs : List ℕ) (at : ℕ) where
-  item-letter : (i : Item) (depth : ℕ) → ItemFrom (drop at xs) depth i → (at < length xs) × (kindOf (getD xs at 0) ≡ kindIn i)
-  unfolding printItem ItemRules kindOf
-  item-letter (value letter v) depth f = let p = front xs at letter (f .behind) (f .printed) in (p .0, rw (p .1) (f .rules))
-  item-letter rest depth f = let p = front xs at 68 (f .behind) (f .printed) in (p .0, rw (p .1))
-  item-letter (struct t) depth f = let p = front xs at 116 _ (f .printed) in (p .0, rw (p .1))
-  item-letter (array t) depth f = let p = front xs at 65 _ (f .printed) in (p .0, rw (p .1))
-
-  -- what follows a letter and its opening bracket
-  opened-at : (c depth : ℕ) (inArray : Bool) (t : Items) (behind : List ℕ) → drop at xs ≡ c ∷ 40 ∷ ((print t ++ 41 ∷ []) ++ behind)
-      → PartRules t depth inArray → InBrackets (drop (at + 2) xs) t
-  opened-at c depth inArray t behind e r =
-      let two : at + 1 + 1 ≡ at + 2 = omega arith in
-      record {
-        depth = depth;
-        inArray = inArray;
-        behind = behind;
-        printed = rw two at (front xs (at + 1) 40 _ (front xs at c _ e .2) .2) ∙ append-assoc (print t) (41 ∷ []) behind;
-        rules = r;
-      }
-
-  inside : (i : Item) (depth : ℕ) → ItemFrom (drop at xs) depth i → bracketed (kindIn i) ≡ true
+  inside : (i : Item) (depth : ℕ) → ItemFrom (drop at xs) depth i → bracketed (kindIs i) ≡ true
       → (t : Items) × InBrackets (drop (at + 2) xs) t × (length (printItem i) ≡ length (print t) + 3)
   unfolding printItem ItemRules
   inside (value letter v) depth f e = clash (sym e)
   inside rest depth f e = clash (sym e)
-  inside (struct t) depth f e =
-      (t, opened-at 116 (depth - 1) false t (f .behind) (f .printed) (f .rules .2), simp length-append (omega arith))
-  inside (array t) depth f e =
-      (t, opened-at 65 (depth - 1) true t (f .behind) (f .printed) (f .rules .3), simp length-append (omega arith))
-
-  pub item-here : ((i : Item) × (depth : ℕ) × ItemFrom (drop at xs) depth i) → at < length xs
-  item-here (i, depth, f) = item-letter i depth f .0
+  inside (struct t) depth f e = (
+    t,
+    record { depth = depth - 1; inArray = false; behind = f .behind; printed = inner-printed xs at 116 t (f .behind) (f .printed); rules = f .rules .2 },
+    simp length-append (omega arith),
+  )
+  inside (array t) depth f e = (
+    t,
+    record { depth = depth - 1; inArray = true; behind = f .behind; printed = inner-printed xs at 65 t (f .behind) (f .printed); rules = f .rules .3 },
+    simp length-append (omega arith),
+  )
 
   module _ (k : Kind) (e : k ≡ kindOf (getD xs at 0)) where
     -- the kind of an item at the place
-    item-kind : (b : Bool) → bracketed k ≡ b → (i : Item) (depth : ℕ) → ItemFrom (drop at xs) depth i → bracketed (kindIn i) ≡ b
-    item-kind b h i depth f = sym (ap bracketed (e ∙ item-letter i depth f .1)) ∙ h
+    item-kind : (b : Bool) → bracketed k ≡ b → (i : Item) (depth : ℕ) → ItemFrom (drop at xs) depth i → bracketed (kindIs i) ≡ b
+    item-kind b h i depth f = sym (ap bracketed (e ∙ item-first xs at depth i f .0)) ∙ h
 
     pub brackets-from : bracketed k ≡ true → ((i : Item) × (depth : ℕ) × ItemFrom (drop at xs) depth i) → (t : Items) × InBrackets (drop (at + 2) xs) t
     brackets-from h (i, depth, f) = let b = inside i depth f (item-kind true h i depth f) in (b .0, b .1)

@@ -1,15 +1,14 @@
 -- Laws of printed trees. Assumes nothing.
-use mathlib.Core.Path.{_≡_, refl, sym, _∙_}
+use mathlib.Core.Path.{_≡_, refl}
 use mathlib.Core.Bool.{Bool, true, false}
-use mathlib.Core.List.{List, [], _∷_, _++_, append-assoc}
-use Prim.Native.Nat.{ℕ, _<_}
+use mathlib.Core.List.{List, [], _∷_, _++_}
+use Prim.Native.Nat.{ℕ}
 use native.Mathlib.Omega.{arith}
-use borrow.Author.Tests.{eqb-true, ne-eqb}
-use lib.Dec.{eqb}
+use borrow.Author.Tests.{ne-eqb}
 use Rattle.datatype.specs.declared.kind.Value.{Value}
 use Rattle.datatype.specs.declared.kind.Kind.the-variants as kind
 use Rattle.datatype.specs.Kinds.{kindOf}
-use Rattle.datatype.specs.Grammar.{Item, Items, value, rest, struct, array, end, more, print, printItem, ItemRules, PartRules}
+use Rattle.datatype.specs.Grammar.{Item, Items, value, rest, struct, array, end, more, printItem, ItemRules, PartRules}
 use Rattle.datatype.specs.Parse.{closed}
 
 pub bracket-shut : (r : List ℕ) → closed (41 ∷ r) ≡ true

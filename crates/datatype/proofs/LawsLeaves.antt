@@ -1,5 +1,5 @@
 -- Laws of where values stand: a value that stands in a part takes octets, and all it takes are the part's. Assumes nothing.
-use mathlib.Core.Bool.{Bool, true, false, cond}
+use mathlib.Core.Bool.{Bool}
 use mathlib.Core.List.{List}
 use mathlib.Core.Path.{_≡_, refl}
 use Prim.Native.Nat.{ℕ, _+_, _-_, _<_, _≤_}
@@ -16,9 +16,7 @@ use Rattle.packed.specs.declared.Packed.the-variants as packed
 use Rattle.packed.proofs.OneSpelling.{place-after}
 use Rattle.datatype.specs.declared.kind.Value.{Value}
 use Rattle.datatype.specs.declared.kind.Value.the-variants as value
-use Rattle.datatype.specs.declared.kind.Kind.{Kind}
 use Rattle.datatype.specs.declared.kind.Kind.the-variants as kind
-use Rattle.datatype.specs.declared.leaf.Span.{Span}
 use Rattle.datatype.specs.declared.leaf.Span.the-variants.{At, Misfit}
 use Rattle.datatype.specs.Kinds.{kindOf}
 use Rattle.datatype.proofs.LawsKinds.{told}

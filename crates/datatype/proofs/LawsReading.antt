@@ -1,20 +1,17 @@
 -- Laws of readings. Assumes nothing.
 use mathlib.Core.Path.{_≡_, refl, sym, ap, _∙_}
-use mathlib.Core.Bool.{Bool, true, false, cond}
-use mathlib.Core.List.{List, [], _∷_, _++_, append-assoc, append-nil}
-use Prim.Native.Nat.{ℕ, zero, suc, _+_, _-_, _*_, _≤_, _<_}
+use mathlib.Core.Bool.{Bool, true, false}
+use mathlib.Core.List.{List, [], _∷_, _++_}
+use Prim.Native.Nat.{ℕ, zero, suc, _+_, _-_, _≤_, _<_}
 use native.Mathlib.Omega.{arith}
-use borrow.Author.Tests.{eqb-true, ltb-true, ltb-false, lt-ltb, le-ltb}
+use borrow.Author.Tests.{eqb-true, lt-ltb, le-ltb}
 use lib.Dec.{eqb, ltb}
 use lib.ListN.{length, take, length-append}
 use lib.Seq.{length-take-le}
 use Rattle.octets.proofs.LawsTests.{by-test}
 use Rattle.datatype.specs.declared.leaf.Span.{Span}
 use Rattle.datatype.specs.declared.leaf.Span.the-variants as span
-use Rattle.datatype.specs.declared.kind.Value.{Value}
-use Rattle.datatype.specs.declared.kind.Kind.the-variants as kind
-use Rattle.datatype.specs.Kinds.{kindOf}
-use Rattle.datatype.specs.Grammar.{Item, Items, value, rest, struct, array, end, more, final, Some, ItemRules, PartRules}
+use Rattle.datatype.specs.Grammar.{Item, Items, value, rest, struct, array, end, more, Some, ItemRules, PartRules}
 use Rattle.datatype.specs.Leaves.{spanOf, countedAt}
 use Rattle.datatype.proofs.LawsLeaves.{span-fits, counted-fits}
 use Rattle.datatype.specs.Reading.{Leaf, leafOf, Reading, misfit, upto, after, andThen, filling, leafReads, contents, elements, itemReads, partReads}

@@ -12,8 +12,8 @@ use Rattle.datatype.specs.declared.check.Step.{Step}
 use Rattle.datatype.specs.declared.check.Step.the-variants as step
 use Rattle.datatype.specs.declared.leaf.Span.{Span}
 use Rattle.datatype.specs.declared.leaf.Span.the-variants as span
-use Rattle.datatype.specs.declared.read.Read.{Read}
-use Rattle.datatype.specs.declared.read.Read.the-variants as read
+use Rattle.datatype.specs.declared.list.Read.{Read}
+use Rattle.datatype.specs.declared.list.Read.the-variants as read
 use Rattle.datatype.specs.Grammar.{Item, Items, print, printItem, final, ItemRules, PartRules, mostOctets}
 use Rattle.datatype.specs.Parse.{Parsed, malformed, parsed, Head, no-item, one, closed}
 use Rattle.datatype.specs.Reading.{Reading, misfit, upto, numbers, itemReads, partReads}

@@ -12,8 +12,7 @@ pub fn item_end(types: &[u8], at: usize) -> usize
     ensures { λ r. ⌜ EndsItem (drop at (now (types .entry))) at r ⌝ }
 {
     match kind_of(types[at]) {
-        Kind::Struct => bracket_end(types, at + 2),
-        Kind::Array => bracket_end(types, at + 2),
+        Kind::Struct | Kind::Array => bracket_end(types, at + 2),
         _ => at + 1,
     }
 }

@@ -78,14 +78,15 @@ fn text_at(part: &[u8], from: usize) -> Span
     ensures { λ r. ⌜ r ≡ textAt (before 0 (drop from (now (part .entry)))) (now (part .entry)) from ⌝ }
 {
     let zero = find_octet(part, from, 0);
-    if zero < part.len() {
-        return Span::At {
-            start: from,
-            size: zero - from,
-            next: zero + 1,
-        };
+    if part.len() <= zero {
+        return Span::Misfit;
     }
-    Span::Misfit
+    let next = zero + 1;
+    Span::At {
+        start: from,
+        size: zero - from,
+        next: next,
+    }
 }
 
 // The octets behind a 16-bit count of them.

@@ -8,6 +8,7 @@ use crate::kind::kind_of;
 use crate::leaf::Span;
 use crate::leaf::counted_at;
 use crate::leaf::span_of;
+use crate::list::Read;
 use crate::list::put_leaf;
 ghost use mathlib.Core.Path.{_≡_};
 ghost use lib.ListN.{length, drop};
@@ -17,12 +18,6 @@ ghost use Rattle.datatype.specs.Answers.{told, tells, filled, result};
 ghost use Rattle.datatype.specs.Calls.{PartFrom, ItemFrom, Room, ReadsPart, ReadsItem, fillingTo};
 
 const MOST_PAYLOAD: usize = 1300;
-
-// What reading gives: the payload does not fit, or the place reached and the number of leaves so far.
-pub enum Read {
-    Misfit,
-    Upto { next: usize, leaves: usize },
-}
 
 // What the public call answers, with 01's number of each.
 pub enum Answer {
@@ -43,6 +38,7 @@ pub fn read_typed(types: &[u8], payload: &[u8], list: &mut [u32]) -> Answer
 {
     if is_type(types) {
         let end = payload.len();
+        let room = list.len();
         if MOST_PAYLOAD < end {
             return Answer::Misfit;
         }
@@ -53,7 +49,7 @@ pub fn read_typed(types: &[u8], payload: &[u8], list: &mut [u32]) -> Answer
         ) {
             Read::Misfit => Answer::Misfit,
             Read::Upto { next: _, leaves } => {
-                if list.len() < 3 * leaves {
+                if room < 3 * leaves {
                     return Answer::ShortList;
                 }
                 read_sequence(types, 0, MOST_OPEN, payload, 0, list, 0);

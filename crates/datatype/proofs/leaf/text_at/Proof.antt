@@ -12,21 +12,21 @@ use Rattle.datatype.proofs.leaf.text_at.Tie as tie
 find-octet-requires : tie.Need-find-octet-requires
 find-octet-requires c κs = search needs
 
-sub-t6 : tie.Need-sub-t6
-sub-t6 c = search needs
-
-add-t7 : tie.Need-add-t7
-add-t7 c = search needs
-
 returns : tie.Need-returns
 unfolding textAt
-returns c =
-    rw (← (c .before .find-octet .ensures), lt-ltb _ _ (c .if1 .taken))
-    (ap (λ size. At (c .before .before .before .args .from) size (c .before .find-octet .result + 1)) (omega arith))
+returns c = rw (← (c .before .find-octet .ensures), le-ltb _ _ (c .if1 .taken))
+
+add-next : tie.Need-add-next
+add-next c = search needs
+
+sub-t5 : tie.Need-sub-t5
+sub-t5 c = search needs
 
 returns-2 : tie.Need-returns-2
 unfolding textAt
-returns-2 c = rw (← (c .before .find-octet .ensures), le-ltb _ _ (c .if1 .left))
+returns-2 c =
+    rw (← (c .before .find-octet .ensures), lt-ltb _ _ (c .if1 .left))
+    (ap (λ size. At (c .before .before .before .args .from) size (c .before .find-octet .result + 1)) (omega arith))
 
 pub text-at-spec : {M : Type 1} → statement M
-text-at-spec = tie.close (tie.spec find-octet-requires sub-t6 add-t7 returns returns-2)
+text-at-spec = tie.close (tie.spec find-octet-requires returns add-next sub-t5 returns-2)

@@ -1,5 +1,6 @@
--- Each arm is a clause of `leafReads`; a leaf's three numbers are those that were put. Assumes nothing.
+-- Each arm is a clause of `leafReads`; a leaf's three numbers are put one after the other. Assumes nothing.
 use mathlib.Core.Path.{refl}
+use native.Mathlib.Numerals.{add-one, add-two}
 use native.Mathlib.Omega.{arith}
 use borrow.Author.Needs.{needs}
 use Rattle.datatype.specs.Reading.{leafReads, numbers}
@@ -12,14 +13,32 @@ enum-told c = search needs
 enum-known-span : tie.Need-enum-known-span
 enum-known-span c = search needs
 
-mul-put-numbers : tie.Need-mul-put-numbers
-mul-put-numbers c = search needs
+mul-at : tie.Need-mul-at
+mul-at c = search needs
 
-put-numbers-requires : tie.Need-put-numbers-requires
-put-numbers-requires c κs = let small = rw (c .before .before .span .given .1) at (c .before .before .before .before .before .pre .1) in omega arith
+put-number-requires : tie.Need-put-number-requires
+put-number-requires c κs = search needs
 
-add-t12 : tie.Need-add-t12
-add-t12 c = search needs
+add-put-number : tie.Need-add-put-number
+add-put-number c = search needs
+
+cast-put-number : tie.Need-cast-put-number
+cast-put-number c = let small = rw (c .before .before .before .before .before .before .span .given .1) at (c .before .before .before .before .before .before .before .before .before .pre .1) in omega arith
+
+put-number-requires-2 : tie.Need-put-number-requires-2
+put-number-requires-2 c κs = search needs
+
+add-put-number-2 : tie.Need-add-put-number-2
+add-put-number-2 c = search needs
+
+cast-put-number-2 : tie.Need-cast-put-number-2
+cast-put-number-2 c = let small = rw (c .before .before .before .before .before .before .before .before .before .before .span .given .1) at (c .before .before .before .before .before .before .before .before .before .before .before .before .before .pre .1) in omega arith
+
+put-number-requires-3 : tie.Need-put-number-requires-3
+put-number-requires-3 c κs = search needs
+
+add-t16 : tie.Need-add-t16
+add-t16 c = search needs
 
 returns : tie.Need-returns
 unfolding leafReads
@@ -30,7 +49,12 @@ same-length c = search needs
 
 returns-2 : tie.Need-returns-2
 unfolding leafReads numbers
-returns-2 c = rw (c .before .before .before .before .before .span .given .1) (refl, c .before .before .put-numbers .ensures)
+returns-2 c =
+    let third = c .before .before in
+    let second = third .before .before .before .before in
+    let first = second .before .before .before .before in
+    rw (first .before .before .before .span .given .1)
+    (refl, rw (third .put-number3 .ensures, second .put-number2 .ensures, first .put-number .ensures, add-one, add-two) refl)
 
 pub put-leaf-spec : {M : Type 1} → statement M
 put-leaf-spec =
@@ -38,9 +62,15 @@ put-leaf-spec =
     (tie.spec
     enum-told
     enum-known-span
-    mul-put-numbers
-    put-numbers-requires
-    add-t12
+    mul-at
+    put-number-requires
+    add-put-number
+    cast-put-number
+    put-number-requires-2
+    add-put-number-2
+    cast-put-number-2
+    put-number-requires-3
+    add-t16
     returns
     same-length
     returns-2)

@@ -1,37 +1,17 @@
-use mathlib.Core.Path.{_≡_, refl, sym, ap, _∙_}
+use mathlib.Core.Path.{_≡_, sym, _∙_}
 use Prim.Native.Nat.{ℕ, _+_, _*_, _-_, _≤_, _<_}
 use native.Mathlib.Omega.{arith}
 use borrow.Author.Needs.{needs}
-use lib.ListN.{length, getD, take, drop}
+use lib.ListN.{length, getD, drop}
 use Rattle.datatype.specs.declared.kind.Kind.{Kind}
 use Rattle.datatype.specs.declared.kind.Kind.the-variants as kind
 use Rattle.datatype.specs.Kinds.{kindOf}
-use Rattle.datatype.specs.Grammar.{Item, Items, array}
+use Rattle.datatype.specs.Grammar.{Items, array}
 use Rattle.datatype.specs.Reading.{itemReads, partReads}
 use Rattle.datatype.specs.Calls.{PartFrom, ItemFrom, Room}
-use Rattle.datatype.proofs.LawsReader.{
-  Onward,
-  part-item,
-  item-first,
-  array-inner,
-  reads-value,
-  reads-array,
-  sequence-ends,
-  turn-misfit,
-  turn-room,
-  turn-on,
-  struct-at,
-  struct-room,
-  struct-misfit,
-  struct-reads,
-  array-at,
-  element-misfit,
-  element-room,
-  element-on,
-  elements-end,
-  span-small,
-  reads-rest,
-}
+use Rattle.datatype.proofs.LawsReader.{reads-value, reads-array, sequence-ends, turn-misfit, turn-room, turn-on, struct-at, struct-room, struct-misfit, struct-reads, array-at, element-misfit, element-room, element-on, elements-end, span-small, reads-rest}
+use Rattle.datatype.proofs.LawsDid.{Onward}
+use Rattle.datatype.proofs.LawsPlaces.{part-item, item-first, array-inner}
 use Rattle.datatype.proofs.LawsLeaves.{counted-fits}
 use borrow.Fn.Kinds.{In}
 use borrow.Fn.PlainCycle.{Measures, is, falls, and}

@@ -5,11 +5,6 @@ use borrow.Author.Needs.{needs}
 use Rattle.datatype.proofs.LawsAnswers.{answers-malformed, answers-long, readable, answers-misfit, few-leaves, answers-short, answers-leaves}
 use Rattle.datatype.proofs.read.read_typed.Statement.{statement}
 use Rattle.datatype.proofs.read.read_typed.Tie as tie
-use Rattle.datatype.proofs.read.read_typed.Reads as reads
-use Rattle.datatype.proofs.read.read_typed.Lts as lts
-use Rattle.datatype.proofs.check.is_type.Reads as is-type-reads
-use Rattle.datatype.proofs.read.filling.Reads as filling-reads
-use Rattle.datatype.proofs.read.read_sequence.Reads as read-sequence-reads
 
 is-type-requires : tie.Need-is-type-requires
 is-type-requires c κs = search needs
