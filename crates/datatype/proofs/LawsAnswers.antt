@@ -19,7 +19,8 @@ use Rattle.datatype.specs.Answers.{refused, listed, result, told, tells,
 use Rattle.datatype.specs.Calls.{PartFrom, Room, Did, fillingTo, ReadsPart}
 use Rattle.datatype.proofs.LawsGrammar.{end-shut}
 use Rattle.datatype.proofs.Grammatical.{accepted, complete}
-use Rattle.datatype.proofs.LawsReading.{part-took, filling-fit}
+use Rattle.datatype.proofs.LawsTook.{part-took}
+use Rattle.datatype.proofs.LawsReading.{filling-fit}
 use Rattle.datatype.proofs.LawsDid.{did-misfit, did-upto, did-filling, length-numbers}
 
 -- the two equations of the public call

@@ -32,7 +32,7 @@ same e = (cc, cc, cc)
 
 module _ (part : List ℕ) (from start size next : ℕ) where
   abbrev Fits : Type 0
-  Fits = (from < next) × (next ≤ length part) × (start ≤ length part) × (size ≤ length part)
+  Fits = (from < next) × (next ≤ length part) × (from ≤ start) × (start + size ≤ next)
 
   fixed-fits : (width : ℕ) → from ≤ length part → 0 < width → fixedAt width part from ≡ At start size next → Fits
   unfolding fixedAt
@@ -60,7 +60,7 @@ module _ (part : List ℕ) (from start size next : ℕ) where
       omega (arith, ltb-false (length part - from) 2 t, ltb-false (length part - (from + 2)) (leAt part from 2) t')))
 
 pub span-fits : (v : Value) (part : List ℕ) (from start size next : ℕ) → from ≤ length part → (letter : ℕ) → kindOf letter ≡ kind.Value v
-    → spanOf v part from ≡ At start size next → (from < next) × (next ≤ length part) × (start ≤ length part) × (size ≤ length part)
+    → spanOf v part from ≡ At start size next → (from < next) × (next ≤ length part) × (from ≤ start) × (start + size ≤ next)
 unfolding spanOf boolAt
 span-fits value.Bool part from start size next h letter k e =
     by-test (leb (getD part from 0) 1) (λ t. fixed-fits part from start size next 1 h (omega arith) (rw t at e)) (λ t. never (rw t at e))

@@ -6,8 +6,11 @@ pub mod LawsPlaces
 pub mod LawsBrackets
 pub mod LawsLeaves
 pub mod LawsReading
+pub mod LawsTook
 pub mod LawsDid
 pub mod LawsReader
 pub mod Grammatical
 pub mod LawsAnswers
-pub mod OctetsTaken
+pub mod NoEmptyElement
+pub mod ByGrammar
+pub mod LeavesInPayload

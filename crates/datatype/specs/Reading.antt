@@ -1,7 +1,7 @@
 -- What a tree reads in a payload (01, Type strings).
 use mathlib.Core.Bool.{cond}
 use mathlib.Core.List.{List, [], _∷_, _++_}
-use Prim.Native.Nat.{ℕ, zero, suc, _-_}
+use Prim.Native.Nat.{ℕ, zero, suc, _+_, _-_, _≤_}
 use lib.Dec.{eqb, ltb}
 use lib.ListN.{length, take}
 use Rattle.octets.specs.Runs.{each}
@@ -22,6 +22,11 @@ leafOf c s n = record { letter = c; start = s; size = n }
 -- the numbers of leaves, in order
 unfoldable pub numbers : List Leaf → List ℕ
 numbers = each (λ leaf. leaf .letter ∷ leaf .start ∷ leaf .size ∷ [])
+
+-- leaves that stand one behind the other, from a place up to another
+abbrev pub InOrder : ℕ → List Leaf → ℕ → Type 0
+InOrder from [] stop = from ≤ stop
+InOrder from (leaf ∷ ls) stop = (from ≤ leaf .start) × InOrder (leaf .start + leaf .size) ls stop
 
 -- the payload does not fit, or the place reached and the leaves up to it
 pub data Reading : Type 0 where

@@ -1,0 +1,27 @@
+-- PROMISE: the answer is told by the grammar alone. For a string of the grammar it is what the string's tree reads in the payload, and for
+-- any other string it is 15. Assumes nothing.
+use mathlib.Core.Bool.{cond}
+use mathlib.Core.List.{List}
+use mathlib.Core.Path.{_≡_, refl}
+use Prim.Native.Nat.{ℕ}
+use lib.Dec.{ltb}
+use lib.ListN.{length}
+use Rattle.datatype.specs.Grammar.{Items, TypeString}
+use Rattle.datatype.specs.Parse.{Parsed, malformed, parsed, typeOf}
+use Rattle.datatype.specs.Reading.{filling, partReads}
+use Rattle.datatype.specs.Answers.{mostPayload, refused, listed, result}
+use Rattle.datatype.proofs.Grammatical.{sound, complete}
+
+pub by-tree : (types payload : List ℕ) (room : ℕ) (t : Items) → TypeString types t
+    → result (typeOf types) payload room
+    ≡ cond (ltb mostPayload (length payload)) (refused 16) (listed room (filling (length payload) (partReads t payload 0)))
+unfolding result
+by-tree types payload room t w = rw (complete types t w)
+
+pub by-none : (types payload : List ℕ) (room : ℕ) → ((t : Items) → TypeString types t → ⊥) → result (typeOf types) payload room ≡ refused 15
+unfolding result
+by-none types payload room none = go (typeOf types) (λ t s e. none t (sound types t s e))
+  where
+    go : (p : Parsed) → ((t : Items) (s : List ℕ) → p ≡ parsed t s → ⊥) → result p payload room ≡ refused 15
+    go malformed h = refl
+    go (parsed t s) h = absurd (h t s refl)
