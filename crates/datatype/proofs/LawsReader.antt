@@ -20,7 +20,7 @@ use Rattle.datatype.specs.declared.list.Read.the-variants as read
 use Rattle.datatype.specs.Kinds.{kindOf}
 use Rattle.datatype.specs.Grammar.{Item, Items, value, rest, struct, array, printItem}
 use Rattle.datatype.specs.Parse.{closed}
-use Rattle.datatype.specs.Leaves.{spanOf, countedAt}
+use Rattle.datatype.specs.Leaves.{spanOf, countedAt, restOf}
 use Rattle.datatype.specs.Reading.{Leaf, upto, andThen, leafReads, contents, itemReads, partReads}
 use Rattle.datatype.specs.Calls.{PartFrom, ItemFrom, Room, Small, Did, fillingTo, ReadsPart, ReadsItem, EndsItem}
 use Rattle.datatype.proofs.kind.Kind.{the-type as kind-type}
@@ -60,7 +60,7 @@ span-small v part from letter (span.At start size next) room short e f =
 
 -- the `_` of the reader's `match` leaves D and no other item
 pub reads-rest : (types : List ℕ) (at depth : ℕ) (part : List ℕ) (from : ℕ) (l l′ : List ℕ) (n : ℕ) (r : Read) (k : Kind) → k ≡ kindOf (getD types at 0)
-    → OneOf (1 ∷ 4 ∷ []) (tagOf kind-type k) → Did (leafReads (getD types at 0) (span.At from (length part - from) (length part))) l l′ n r
+    → OneOf (1 ∷ 4 ∷ []) (tagOf kind-type k) → Did (leafReads (getD types at 0) (restOf part from)) l l′ n r
     → ReadsItem (drop at types) depth part from l l′ n r
 unfolding itemReads printItem
 reads-rest types at depth part from l l′ n r k e tag d i w = go i w (rw (e ∙ item-first types at depth i w .0) at tag)

@@ -10,7 +10,7 @@ use lib.Seq.{length-take-le}
 use Rattle.octets.proofs.LawsTests.{by-test}
 use Rattle.datatype.specs.declared.leaf.Span.the-variants as span
 use Rattle.datatype.specs.Grammar.{Item, Items, value, rest, struct, array, end, more, Some, ItemRules, PartRules}
-use Rattle.datatype.specs.Leaves.{spanOf, countedAt}
+use Rattle.datatype.specs.Leaves.{spanOf, countedAt, restOf}
 use Rattle.datatype.proofs.LawsLeaves.{span-fits, counted-fits}
 use Rattle.datatype.specs.Reading.{Leaf, InOrder, Reading, upto, andThen, elements, itemReads, partReads}
 use Rattle.datatype.proofs.LawsReading.{both-fit, leaf-fit, contents-fit}
@@ -124,7 +124,7 @@ some-least (more (struct u) t) left k some = omega arith
 some-least (more (array u) t) left k some = let z : _≡_ {A = ℕ} 0 1 = cc (k .0 .0) in absurd (omega arith)
 
 mutual
-  unfolding itemReads ItemRules PartRules spares leasts
+  unfolding itemReads restOf ItemRules PartRules spares leasts
 
   took-item : (i : Item) (left : ℕ) (a : Bool) (part : List ℕ) (from p : ℕ) (ls : List Leaf)
       → ItemRules i left a → from ≤ length part → itemReads i part from ≡ upto p ls → Took part from p ls (least i) (spare i)
@@ -133,7 +133,7 @@ mutual
       let f = span-fits v part from (w .0) (w .1) p room c k (w .2) in
       rw (w .3) (record { onward = omega arith; within = f .1; few = omega arith; ordered = (f .2, f .3) })
   took-item rest left a part from p ls k room e =
-      let w = leaf-fit 68 (span.At from (length part - from) (length part)) p ls e in
+      let w = leaf-fit 68 (restOf part from) p ls e in
       let stop : length part ≡ p = cc in
       let start : from ≡ w .0 = cc (w .2) in
       let size : length part - from ≡ w .1 = cc (w .2) in

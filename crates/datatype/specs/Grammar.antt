@@ -44,18 +44,21 @@ abbrev pub Some : Items → Type 0
 Some end = ⊥
 Some (more i t) = Unit {0}
 
--- The rules of a part and of an item in it, where so many brackets more may be opened. The Bool tells a part that stands directly
--- inside A(...). A letter is one of 01's; D and A "must stand last in it"; "Brackets hold at least one item and at most four are open at
--- once"; "Directly inside A(...) there is no D and no A".
+-- The rules of an item and of a part. The number is how many brackets more may be opened, and the Bool tells a part that stands directly
+-- inside A(...).
 unfoldable mutual
   pub ItemRules : Item → ℕ → Bool → Type 0
+  -- "all of them these letters and brackets"
   ItemRules (value letter v) left inArray = kindOf letter ≡ kind.Value v
+  -- "Directly inside A(...) there is no D and no A"
   ItemRules rest left inArray = inArray ≡ false
+  -- "Brackets hold at least one item and at most four are open at once"
   ItemRules (struct t) left inArray = (0 < left) × Some t × PartRules t (left - 1) false
   ItemRules (array t) left inArray = (inArray ≡ false) × (0 < left) × Some t × PartRules t (left - 1) true
 
   pub PartRules : Items → ℕ → Bool → Type 0
   PartRules end left inArray = Unit {0}
+  -- D and A "must stand last in it"
   PartRules (more i t) left inArray = ItemRules i left inArray × (final i ≡ true → t ≡ end) × PartRules t left inArray
 
 -- "at most four are open at once"

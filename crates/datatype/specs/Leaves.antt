@@ -45,3 +45,7 @@ spanOf (value.Fixed width) part from = fixedAt width part from
 spanOf value.Packed part from = numberSpan from (packedAt part from)
 spanOf value.Text part from = textAt (before 0 (drop from part)) part from
 spanOf value.Counted part from = countedAt part from
+
+-- "D and A run to the end of the enclosing part"
+abbrev pub restOf : List ℕ → ℕ → Span
+restOf part from = At from (length part - from) (length part)

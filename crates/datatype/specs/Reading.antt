@@ -8,7 +8,7 @@ use Rattle.octets.specs.Runs.{each}
 use Rattle.datatype.specs.declared.leaf.Span.{Span}
 use Rattle.datatype.specs.declared.leaf.Span.the-variants.{At, Misfit}
 use Rattle.datatype.specs.Grammar.{Item, Items, value, rest, struct, array, end, more}
-use Rattle.datatype.specs.Leaves.{spanOf, countedAt}
+use Rattle.datatype.specs.Leaves.{spanOf, countedAt, restOf}
 
 -- "three a leaf: ASCII letter code, start in the payload, length"
 pub record Leaf : Type 0 where
@@ -64,7 +64,7 @@ elements (suc n) go from stop = cond (ltb from stop) (andThen (go from) (λ p. e
 unfoldable mutual
   pub itemReads : Item → List ℕ → ℕ → Reading
   itemReads (value letter v) part from = leafReads letter (spanOf v part from)
-  itemReads rest part from = leafReads 68 (At from (length part - from) (length part))
+  itemReads rest part from = leafReads 68 (restOf part from)
   itemReads (struct t) part from = contents (countedAt part from) (λ start stop. partReads t (take stop part) start)
   itemReads (array t) part from = elements (length part - from) (λ p. partReads t part p) from (length part)
 

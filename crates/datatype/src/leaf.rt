@@ -9,16 +9,12 @@ ghost use Prim.Native.Nat.{_≤_};
 ghost use lib.ListN.{length, drop};
 ghost use Rattle.octets.specs.Finding.{before};
 ghost use Rattle.packed.specs.Packed.{packedAt};
-ghost use Rattle.datatype.specs.Leaves.{fixedAt, boolAt, numberSpan, textAt, countedAt, spanOf};
+ghost use Rattle.datatype.specs.Leaves.{fixedAt, boolAt, numberSpan, textAt, countedAt, spanOf, restOf};
 
-// A value's octets and the place after it, or that it does not fit.
+// Where a value stands: its start, its length and the place after it; or that it does not fit.
 pub enum Span {
     Misfit,
-    At {
-        start: usize,
-        size: usize,
-        next: usize,
-    },
+    At(usize, usize, usize),
 }
 
 pub fn span_of(value: Value, part: &[u8], from: usize) -> Span
@@ -41,11 +37,7 @@ fn fixed_at(width: usize, part: &[u8], from: usize) -> Span
     if part.len() - from < width {
         return Span::Misfit;
     }
-    Span::At {
-        start: from,
-        size: width,
-        next: from + width,
-    }
+    Span::At(from, width, from + width)
 }
 
 fn bool_at(part: &[u8], from: usize) -> Span
@@ -65,11 +57,7 @@ fn packed_at(part: &[u8], from: usize) -> Span
 {
     match read_packed(part, from) {
         Packed::Unreadable => Span::Misfit,
-        Packed::Number(_, next) => Span::At {
-            start: from,
-            size: next - from,
-            next: next,
-        },
+        Packed::Number(_, next) => Span::At(from, next - from, next),
     }
 }
 
@@ -82,11 +70,7 @@ fn text_at(part: &[u8], from: usize) -> Span
         return Span::Misfit;
     }
     let next = zero + 1;
-    Span::At {
-        start: from,
-        size: zero - from,
-        next: next,
-    }
+    Span::At(from, zero - from, next)
 }
 
 // The octets behind a 16-bit count of them.
@@ -102,9 +86,14 @@ pub fn counted_at(part: &[u8], from: usize) -> Span
     if part.len() - start < size {
         return Span::Misfit;
     }
-    Span::At {
-        start: start,
-        size: size,
-        next: start + size,
-    }
+    Span::At(start, size, start + size)
+}
+
+// The octets up to the end of the part.
+pub fn rest_of(part: &[u8], from: usize) -> Span
+    requires { ⌜ from ≤ length (now part) ⌝ }
+    ensures { λ r. ⌜ r ≡ restOf (now (part .entry)) from ⌝ }
+{
+    let end = part.len();
+    Span::At(from, end - from, end)
 }

@@ -11,7 +11,7 @@ ghost use Rattle.datatype.specs.Calls.{Small, Did};
 // What reading has come to: the payload does not fit, or the place reached in it and the number of leaves so far.
 pub enum Read {
     Misfit,
-    Upto { next: usize, leaves: usize },
+    Upto(usize, usize),
 }
 
 // The leaf of a value, behind the leaves so far. Its numbers are stored as far as the list goes.
@@ -21,15 +21,12 @@ pub fn put_leaf(list: &mut [u32], leaves: usize, letter: u8, span: Span) -> Read
 {
     match span {
         Span::Misfit => Read::Misfit,
-        Span::At { start, size, next } => {
+        Span::At(start, size, next) => {
             let at = 3 * leaves;
             put_number(list, at, letter as u32);
             put_number(list, at + 1, start as u32);
             put_number(list, at + 2, size as u32);
-            Read::Upto {
-                next: next,
-                leaves: leaves + 1,
-            }
+            Read::Upto(next, leaves + 1)
         }
     }
 }

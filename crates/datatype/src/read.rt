@@ -7,6 +7,7 @@ use crate::kind::Kind;
 use crate::kind::kind_of;
 use crate::leaf::Span;
 use crate::leaf::counted_at;
+use crate::leaf::rest_of;
 use crate::leaf::span_of;
 use crate::list::Read;
 use crate::list::put_leaf;
@@ -48,7 +49,7 @@ pub fn read_typed(types: &[u8], payload: &[u8], list: &mut [u32]) -> Answer
             read_sequence(types, 0, MOST_OPEN, payload, 0, &mut list[0..0], 0),
         ) {
             Read::Misfit => Answer::Misfit,
-            Read::Upto { next: _, leaves } => {
+            Read::Upto(_, leaves) => {
                 if room < 3 * leaves {
                     return Answer::ShortList;
                 }
@@ -79,19 +80,13 @@ fn read_sequence(
     let mut count = leaves;
     loop {
         if closed(types, place) {
-            return Read::Upto {
-                next: next,
-                leaves: count,
-            };
+            return Read::Upto(next, count);
         }
         match read_item(types, place, depth, part, next, list, count) {
             Read::Misfit => {
                 return Read::Misfit;
             }
-            Read::Upto {
-                next: reached,
-                leaves: counted,
-            } => {
+            Read::Upto(reached, counted) => {
                 next = reached;
                 count = counted;
             }
@@ -117,11 +112,7 @@ fn read_item(
         Kind::Value(value) => put_leaf(list, leaves, letter, span_of(value, part, from)),
         Kind::Struct => match counted_at(part, from) {
             Span::Misfit => Read::Misfit,
-            Span::At {
-                start,
-                size: _,
-                next,
-            } => filling(
+            Span::At(start, _, next) => filling(
                 next,
                 read_sequence(
                     types,
@@ -142,31 +133,16 @@ fn read_item(
                     Read::Misfit => {
                         return Read::Misfit;
                     }
-                    Read::Upto {
-                        next: reached,
-                        leaves: counted,
-                    } => {
+                    Read::Upto(reached, counted) => {
                         next = reached;
                         count = counted;
                     }
                 }
             }
-            Read::Upto {
-                next: next,
-                leaves: count,
-            }
+            Read::Upto(next, count)
         }
-        // D: the string was checked, so that nothing else is left.
-        _ => put_leaf(
-            list,
-            leaves,
-            letter,
-            Span::At {
-                start: from,
-                size: part.len() - from,
-                next: part.len(),
-            },
-        ),
+        // D: the string was checked, and no other letter is left.
+        _ => put_leaf(list, leaves, letter, rest_of(part, from)),
     }
 }
 
@@ -176,12 +152,9 @@ fn filling(stop: usize, read: Read) -> Read
 {
     match read {
         Read::Misfit => Read::Misfit,
-        Read::Upto { next, leaves } => {
+        Read::Upto(next, leaves) => {
             if next == stop {
-                return Read::Upto {
-                    next: next,
-                    leaves: leaves,
-                };
+                return Read::Upto(next, leaves);
             }
             Read::Misfit
         }

@@ -25,6 +25,7 @@ use Rattle.datatype.proofs.brackets.item_end.Reads as item-end-reads
 use Rattle.datatype.proofs.check.closed.Reads as closed-reads
 use Rattle.datatype.proofs.kind.kind_of.Reads as kind-of-reads
 use Rattle.datatype.proofs.leaf.counted_at.Reads as counted-at-reads
+use Rattle.datatype.proofs.leaf.rest_of.Reads as rest-of-reads
 use Rattle.datatype.proofs.leaf.span_of.Reads as span-of-reads
 use Rattle.datatype.proofs.list.put_leaf.Reads as put-leaf-reads
 use Rattle.datatype.proofs.read.filling.Reads as filling-reads
@@ -57,7 +58,7 @@ read-sequence-below t =
     read-sequence.Pre
 
 abbrev read-item-claims : ℕ → read-item-lts.Claims
-read-item-claims t = (kind-of-reads.Asked, kind-of-reads.Learnt, span-of-reads.Asked, span-of-reads.Learnt, put-leaf-reads.Asked, put-leaf-reads.Learnt, counted-at-reads.Asked, counted-at-reads.Learnt, read-sequence-below t, read-sequence.Post, filling-reads.Asked, filling-reads.Learnt)
+read-item-claims t = (kind-of-reads.Asked, kind-of-reads.Learnt, span-of-reads.Asked, span-of-reads.Learnt, put-leaf-reads.Asked, put-leaf-reads.Learnt, counted-at-reads.Asked, counted-at-reads.Learnt, read-sequence-below t, read-sequence.Post, filling-reads.Asked, filling-reads.Learnt, rest-of-reads.Asked, rest-of-reads.Learnt)
 
 abbrev read-item-Inv-loop : read-item-lts.InvT-loop
 read-item-Inv-loop types at depth part from list₀ leaves letter next₀ count₀ list next count =
@@ -205,11 +206,11 @@ read-item-loop-again t c =
           (element-on (a .types .now) _ (a .at) _ _ _ _ _ _ u w (c .before .before .before .before .before .before .before .loop-test .taken) (c .before .before .before .before .before .read-sequence2 .ensures) _ _ (c .before .reached .given .1) r l₂ d),
     )
 
-read-item-sub-t43 : (t : ℕ) → read-item-lts.Need-sub-t43 (read-item-claims t) (read-item-at t) read-item.Post read-item-Inv-loop read-item-μ-loop
-read-item-sub-t43 t c = search needs
+read-item-rest-of-requires : (t : ℕ) → read-item-lts.Need-rest-of-requires (read-item-claims t) (read-item-at t) read-item.Post read-item-Inv-loop read-item-μ-loop
+read-item-rest-of-requires t c κs = search needs
 
 read-item-put-leaf-requires-2 : (t : ℕ) → read-item-lts.Need-put-leaf-requires-2 (read-item-claims t) (read-item-at t) read-item.Post read-item-Inv-loop read-item-μ-loop
-read-item-put-leaf-requires-2 t c κs = search needs
+read-item-put-leaf-requires-2 t c κs = rw (c .rest-of .ensures) (search needs)
 
 read-item-same-length-2 : (t : ℕ) → read-item-lts.Need-same-length-2 (read-item-claims t) (read-item-at t) read-item.Post read-item-Inv-loop read-item-μ-loop
 read-item-same-length-2 t c = search needs
@@ -249,8 +250,9 @@ read-item-same-length-5 t c = search needs
 
 read-item-returns-6 : (t : ℕ) → read-item-lts.Need-returns-6 (read-item-claims t) (read-item-at t) read-item.Post read-item-Inv-loop read-item-μ-loop
 read-item-returns-6 t c =
-    let a = c .before .before .before .before .before .before .before .before .before .before .args in
-    reads-rest (a .types .now) (a .at) _ _ _ _ _ _ _ _ (c .before .before .before .before .before .kind-of .ensures) (c .before .before .before .before .match .keys4) (c .before .before .put-leaf2 .ensures)
+    let a = c .before .before .before .before .before .before .before .before .before .before .before .args in
+    reads-rest (a .types .now) (a .at) _ _ _ _ _ _ _ _ (c .before .before .before .before .before .before .kind-of .ensures) (c .before .before .before .before .before .match .keys4)
+    (rw (c .before .before .before .rest-of .ensures) at (c .before .before .put-leaf2 .ensures))
 
 abbrev read-sequence-claims : ℕ → read-sequence-lts.Claims
 read-sequence-claims t = (closed-reads.Asked, closed-reads.Learnt, read-item-below t, read-item.Post, item-end-reads.Asked, item-end-reads.Learnt)
@@ -375,7 +377,7 @@ pub +read-item+read-sequence-spec : {M : Type 1} → statement M
     (read-item-enum-known-reached t)
     (read-item-loop-less t)
     (read-item-loop-again t)
-    (read-item-sub-t43 t)
+    (read-item-rest-of-requires t)
     (read-item-put-leaf-requires-2 t)
     (read-item-same-length-2 t)
     (read-item-returns-2 t)
