@@ -1,3 +1,4 @@
+-- A first reading, on none of the list, decides the answer; a second one fills the list. Assumes nothing.
 use mathlib.Core.Path.{sym, _∙_}
 use mathlib.Core.List.{[]}
 use native.Mathlib.Omega.{arith}
@@ -22,7 +23,10 @@ part-read-sequence-end : tie.Need-part-read-sequence-end
 part-read-sequence-end c = search needs
 
 read-sequence-requires : tie.Need-read-sequence-requires
-read-sequence-requires c κs = readable _ (c .before .before .before .before .before .before .before .args .payload .now) [] (sym (c .before .before .before .is-type .ensures) ∙ c .before .before .if1 .taken) (c .before .if2 .left)
+read-sequence-requires c κs =
+    let tested = c .before in
+    let typed = sym (tested .before .before .is-type .ensures) ∙ tested .before .if1 .taken in
+    readable _ _ [] typed (tested .if2 .left)
 
 filling-requires : tie.Need-filling-requires
 filling-requires c κs = search needs
@@ -34,28 +38,56 @@ enum-known-leaves : tie.Need-enum-known-leaves
 enum-known-leaves c = search needs
 
 mul-if3 : tie.Need-mul-if3
-mul-if3 c = omega (arith, few-leaves _ _ [] (sym (c .before .before .before .before .before .before .before .before .before .before .is-type .ensures) ∙ c .before .before .before .before .before .before .before .before .before .if1 .taken) (c .before .before .before .before .before .before .before .before .if2 .left) _ _ (c .before .before .before .before .before .before .read-sequence .kept .1 .1 .1 .1 .1 .0) _ _ (c .before .before .before .before .before .before .read-sequence .ensures) (c .before .before .before .filling .ensures) _ _ (c .before .leaves .given .1))
+mul-if3 c =
+    let filled = c .before .before .before in
+    let first = filled .before .before .before in
+    let tested = first .before .before in
+    let typed = sym (tested .before .before .is-type .ensures) ∙ tested .before .if1 .taken in
+    let lent = first .read-sequence .kept .1 .1 .1 .1 .1 .0 in
+    omega (arith, few-leaves _ _ [] typed (tested .if2 .left) _ _ lent _ _ (first .read-sequence .ensures) (filled .filling .ensures) _ _ (c .before .leaves .given .1))
 
 same-length : tie.Need-same-length
 same-length c = search needs
 
 returns-2 : tie.Need-returns-2
-returns-2 c = answers-short _ _ _ (sym (c .before .before .before .before .before .before .before .before .before .before .before .is-type .ensures) ∙ c .before .before .before .before .before .before .before .before .before .before .if1 .taken) (c .before .before .before .before .before .before .before .before .before .if2 .left) _ _ (c .before .before .before .before .before .before .before .read-sequence .kept .1 .1 .1 .1 .1 .0) _ _ (c .before .before .before .before .before .before .before .read-sequence .ensures) (c .before .before .before .before .filling .ensures) _ _ (c .before .before .leaves .given .1) (c .if3 .taken)
+returns-2 c =
+    let filled = c .before .before .before .before in
+    let first = filled .before .before .before in
+    let tested = first .before .before in
+    let typed = sym (tested .before .before .is-type .ensures) ∙ tested .before .if1 .taken in
+    let lent = first .read-sequence .kept .1 .1 .1 .1 .1 .0 in
+    answers-short _ _ _ typed (tested .if2 .left) _ _ lent _ _ (first .read-sequence .ensures) (filled .filling .ensures) _ _ (c .before .before .leaves .given .1) (c .if3 .taken)
 
 read-sequence-requires-2 : tie.Need-read-sequence-requires-2
-read-sequence-requires-2 c κs = readable _ (c .before .before .before .before .before .before .before .before .before .before .before .before .before .before .before .before .args .payload .now) [] (sym (c .before .before .before .before .before .before .before .before .before .before .before .before .is-type .ensures) ∙ c .before .before .before .before .before .before .before .before .before .before .before .if1 .taken) (c .before .before .before .before .before .before .before .before .before .before .if2 .left)
+read-sequence-requires-2 c κs =
+    let tested = c .before .before .before .before .before .before .before .before .before .before in
+    let typed = sym (tested .before .before .is-type .ensures) ∙ tested .before .if1 .taken in
+    readable _ _ [] typed (tested .if2 .left)
 
 same-length-2 : tie.Need-same-length-2
 same-length-2 c = search needs
 
 returns-3 : tie.Need-returns-3
-returns-3 c = answers-misfit _ _ _ (sym (c .before .before .before .before .before .before .before .before .before .is-type .ensures) ∙ c .before .before .before .before .before .before .before .before .if1 .taken) (c .before .before .before .before .before .before .before .if2 .left) _ _ (c .before .before .before .before .before .read-sequence .kept .1 .1 .1 .1 .1 .0) _ _ (c .before .before .before .before .before .read-sequence .ensures) (c .before .before .filling .ensures) (c .enum-told .given .1)
+returns-3 c =
+    let filled = c .before .before in
+    let first = filled .before .before .before in
+    let tested = first .before .before in
+    let typed = sym (tested .before .before .is-type .ensures) ∙ tested .before .if1 .taken in
+    let lent = first .read-sequence .kept .1 .1 .1 .1 .1 .0 in
+    answers-misfit _ _ _ typed (tested .if2 .left) _ _ lent _ _ (first .read-sequence .ensures) (filled .filling .ensures) (c .enum-told .given .1)
 
 same-length-3 : tie.Need-same-length-3
 same-length-3 c = search needs
 
 returns-4 : tie.Need-returns-4
-returns-4 c = answers-leaves _ _ _ (sym (c .before .before .before .before .before .before .before .before .before .before .before .before .before .before .before .is-type .ensures) ∙ c .before .before .before .before .before .before .before .before .before .before .before .before .before .before .if1 .taken) (c .before .before .before .before .before .before .before .before .before .before .before .before .before .if2 .left) _ _ (c .before .before .before .before .before .before .before .before .before .before .before .read-sequence .kept .1 .1 .1 .1 .1 .0) _ _ (c .before .before .before .before .before .before .before .before .before .before .before .read-sequence .ensures) (c .before .before .before .before .before .before .before .before .filling .ensures) _ _ (c .before .before .before .before .before .before .leaves .given .1) (c .before .before .before .before .if3 .left) _ _ (c .before .before .read-sequence2 .ensures)
+returns-4 c =
+    let filled = c .before .before .before .before .before .before .before .before in
+    let first = filled .before .before .before in
+    let tested = first .before .before in
+    let typed = sym (tested .before .before .is-type .ensures) ∙ tested .before .if1 .taken in
+    let lent = first .read-sequence .kept .1 .1 .1 .1 .1 .0 in
+    answers-leaves _ _ _ typed (tested .if2 .left) _ _ lent _ _ (first .read-sequence .ensures) (filled .filling .ensures) _ _ (c .before .before .before .before .before .before .leaves .given .1) (c .before .before .before .before .if3 .left) _ _
+    (c .before .before .read-sequence2 .ensures)
 
 returns-5 : tie.Need-returns-5
 returns-5 c = answers-malformed _ _ _ (sym (c .before .is-type .ensures) ∙ c .if1 .left)
