@@ -13,7 +13,28 @@ use Rattle.datatype.specs.declared.kind.Kind.{Kind}
 use Rattle.datatype.specs.declared.kind.Kind.the-variants as kind
 use Rattle.datatype.specs.Kinds.{kindOf}
 use Rattle.datatype.specs.Grammar.{Item, Items, value, rest, struct, array, end, more, print, printItem, final, Some, ItemRules, PartRules, TypeString}
-use Rattle.datatype.specs.Parse.{Parsed, malformed, parsed, Head, no-item, one, closed, passed, inside, headed, itemOf, itemIn, joined, follow, partIn, partAt, itemAt, whole, typeOf, isType}
+use Rattle.datatype.specs.Parse.{
+  Parsed,
+  malformed,
+  parsed,
+  Head,
+  no-item,
+  one,
+  closed,
+  passed,
+  inside,
+  headed,
+  itemOf,
+  itemIn,
+  joined,
+  follow,
+  partIn,
+  partAt,
+  itemAt,
+  whole,
+  typeOf,
+  isType,
+}
 use Rattle.datatype.proofs.LawsKinds.{told}
 use Rattle.datatype.proofs.LawsGrammar.{bracket-shut, end-shut, item-open}
 use Rattle.datatype.proofs.LawsParse.{part-step}
@@ -54,7 +75,8 @@ passing left a c s t r (parsed (more i u) (d ∷ q)) bracket some sound e =
     let less : suc left - 1 ≡ left = omega arith in
     rw (← tree, ← rest, less) (cc (w .0), omega arith, tt, w .1)
 
-module _ (part : ℕ → Bool → List ℕ → Parsed) (sound-part : (left : ℕ) (a : Bool) (s : List ℕ) (t : Items) (r : List ℕ) → part left a s ≡ parsed t r → PartIs left a s t r) where
+module _ (part : ℕ → Bool → List ℕ → Parsed)
+    (sound-part : (left : ℕ) (a : Bool) (s : List ℕ) (t : Items) (r : List ℕ) → part left a s ≡ parsed t r → PartIs left a s t r) where
   sound-inside : (left : ℕ) (a : Bool) (s : List ℕ) (t : Items) (r : List ℕ) → inside part left a s ≡ parsed t r → Brackets left a s t r
   unfolding inside
   sound-inside zero a s t r e = never e
@@ -72,7 +94,8 @@ module _ (part : ℕ → Bool → List ℕ → Parsed) (sound-part : (left : ℕ
   unfolding headed
   sound-headed item left a s i r e = go (inside part left a s) (λ t q. sound-inside left a s t q) e
     where
-      go : (p : Parsed) → ((t : Items) (q : List ℕ) → p ≡ parsed t q → Brackets left a s t q) → headed item p ≡ one i r → (t : Items) × (i ≡ item t) × Brackets left a s t r
+      go : (p : Parsed) → ((t : Items) (q : List ℕ) → p ≡ parsed t q → Brackets left a s t q) → headed item p ≡ one i r
+          → (t : Items) × (i ≡ item t) × Brackets left a s t r
       go malformed h e = none e
       go (parsed t q) h e = let same : q ≡ r = cc in (t, cc, h t r (ap (parsed t) same))
 
@@ -146,7 +169,8 @@ sound-part (suc n) left a s t r e =
     followed left a s t r (partIn n left a) (itemIn (partIn n) left a s) (λ q u. sound-part n left a q u r)
     (sound-item (partIn n) (sound-part n) left a s) (rw going at e))
 
-whole-sound : (types : List ℕ) (t : Items) (r : List ℕ) (p : Parsed) → length types ≤ 64 → ((u : Items) (q : List ℕ) → p ≡ parsed u q → PartIs 4 false types u q)
+whole-sound : (types : List ℕ) (t : Items) (r : List ℕ) (p : Parsed) → length types ≤ 64
+    → ((u : Items) (q : List ℕ) → p ≡ parsed u q → PartIs 4 false types u q)
     → whole p ≡ parsed t r → TypeString types t
 unfolding whole
 whole-sound types t r malformed few sound e = never e
@@ -174,7 +198,8 @@ found-inside end (suc left) a r room some rules e = absurd some
 found-inside (more i t) (suc left) a r room some rules e =
     let less : suc left - 1 ≡ left = omega arith in
     let e′ : partAt left a ((printItem i ++ print t) ++ 41 ∷ r) ≡ parsed (more i t) (41 ∷ r) = rw less at e in
-    let going : closed ((printItem i ++ print t) ++ 41 ∷ r) ≡ false = rw (append-assoc (printItem i) (print t) (41 ∷ r)) (item-open i (suc left - 1) a (print t ++ 41 ∷ r) (rules .0)) in
+    let going : closed ((printItem i ++ print t) ++ 41 ∷ r) ≡ false =
+    rw (append-assoc (printItem i) (print t) (41 ∷ r)) (item-open i (suc left - 1) a (print t ++ 41 ∷ r) (rules .0)) in
     rw (append-assoc (printItem i ++ print t) (41 ∷ []) r, going, e′)
 
 mutual
@@ -189,14 +214,17 @@ mutual
   found-part : (t : Items) (left : ℕ) (a : Bool) (r : List ℕ) → PartRules t left a → closed r ≡ true → partAt left a (print t ++ r) ≡ parsed t r
   found-part end left a r k shut = part-step left a r ∙ rw shut
   found-part (more i t) left a r k shut =
-      rw (append-assoc (printItem i) (print t) r, part-step left a (printItem i ++ (print t ++ r)), item-open i left a (print t ++ r) (k .0), found-item i left a (print t ++ r) (k .0))
+      let r′ = print t ++ r in
+      rw (append-assoc (printItem i) (print t) r, part-step left a (printItem i ++ r′), item-open i left a r′ (k .0), found-item i left a r′ (k .0))
       (by-test (final i)
       (λ last. let one-item : t ≡ end = k .1 last in rw (last, one-item, shut))
       (λ plain. rw (plain, found-part t left a r (k .2) shut)))
 
 pub complete : (types : List ℕ) (t : Items) → TypeString types t → typeOf types ≡ parsed t []
 unfolding typeOf whole
-complete types t w = rw (← (w .printed), le-ltb 64 (length (print t)) (rw (w .printed) (w .short)), ← append-nil (print t), found-part t 4 false [] (w .rules) end-shut)
+complete types t w =
+    let few : length (print t) ≤ 64 = rw (w .printed) (w .short) in
+    rw (← (w .printed), le-ltb 64 (length (print t)) few, ← append-nil (print t), found-part t 4 false [] (w .rules) end-shut)
 
 -- so each string has one tree
 pub one-tree : (types : List ℕ) (t u : Items) → TypeString types t → TypeString types u → t ≡ u

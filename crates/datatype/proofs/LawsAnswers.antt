@@ -32,7 +32,8 @@ pub answers-malformed : (types payload list : List ℕ) → isType (typeOf types
 unfolding result tells filled
 answers-malformed types payload list e = go (typeOf types) e
   where
-    go : (p : Parsed) → isType p ≡ false → (told answer.Malformed ≡ tells (result p payload (length list))) × (list ≡ filled list (result p payload (length list)))
+    go : (p : Parsed) → isType p ≡ false
+        → (told answer.Malformed ≡ tells (result p payload (length list))) × (list ≡ filled list (result p payload (length list)))
     go malformed e = (refl, refl)
     go (parsed t s) e = let z : _≡_ {A = ℕ} 0 1 = cc in absurd (omega arith)
 
@@ -71,7 +72,8 @@ module _ (types payload list : List ℕ) (typed : isType (typeOf types) ≡ true
     unfolding result
     result-is = rw (tree .1, le-ltb _ _ short)
 
-    module _ (ys ys′ : List ℕ) (none : length ys′ ≡ 0) (r r′ : Read) (first : ReadsPart types 4 payload 0 ys ys′ 0 r) (fill : r′ ≡ fillingTo (length payload) r) where
+    module _ (ys ys′ : List ℕ) (none : length ys′ ≡ 0) (r r′ : Read) (first : ReadsPart types 4 payload 0 ys ys′ 0 r)
+        (fill : r′ ≡ fillingTo (length payload) r) where
       did : Did (filling (length payload) (partReads (tree .0) payload 0)) ys ys′ 0 r′
       did = rw fill (did-filling (length payload) (partReads (tree .0) payload 0) ys ys′ 0 r (first (tree .0) (tree .2)))
 
@@ -83,7 +85,8 @@ module _ (types payload list : List ℕ) (typed : isType (typeOf types) ≡ true
           (none-lent ys′ list none) refl
 
       module _ (p n : ℕ) (e : r′ ≡ read.Upto p n) where
-        found : (ls : List Leaf) × (filling (length payload) (partReads (tree .0) payload 0) ≡ upto p ls) × (n ≡ 0 + length ls) × (ys′ ≡ sets ys (3 * 0) (numbers ls))
+        found : (ls : List Leaf) × (filling (length payload) (partReads (tree .0) payload 0) ≡ upto p ls) × (n ≡ 0 + length ls)
+            × (ys′ ≡ sets ys (3 * 0) (numbers ls))
         found = did-upto (filling (length payload) (partReads (tree .0) payload 0)) ys ys′ 0 p n (rw e at did)
 
         -- so that three numbers a leaf can be counted

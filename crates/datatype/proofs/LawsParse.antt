@@ -11,7 +11,25 @@ use Rattle.datatype.specs.declared.kind.Kind.{Kind}
 use Rattle.datatype.specs.declared.kind.Kind.the-variants as kind
 use Rattle.datatype.specs.Kinds.{kindOf}
 use Rattle.datatype.specs.Grammar.{Item, Items, struct, array, end, final}
-use Rattle.datatype.specs.Parse.{Parsed, malformed, parsed, Head, no-item, one, closed, passed, inside, headed, itemOf, itemIn, joined, follow, partIn, partAt, itemAt}
+use Rattle.datatype.specs.Parse.{
+  Parsed,
+  malformed,
+  parsed,
+  Head,
+  no-item,
+  one,
+  closed,
+  passed,
+  inside,
+  headed,
+  itemOf,
+  itemIn,
+  joined,
+  follow,
+  partIn,
+  partAt,
+  itemAt,
+}
 
 -- how a part is parsed
 abbrev Parser : Type 0

@@ -101,7 +101,8 @@ array-inner types at depth t w = (
 )
 
 -- an item has octets, all of them in the string
-pub item-place : (types : List ℕ) (at depth : ℕ) (i : Item) → ItemFrom (drop at types) depth i → (0 < length (printItem i)) × (at + length (printItem i) ≤ length types)
+pub item-place : (types : List ℕ) (at depth : ℕ) (i : Item) → ItemFrom (drop at types) depth i
+    → (0 < length (printItem i)) × (at + length (printItem i) ≤ length types)
 unfolding printItem
 item-place types at depth i w =
     (some i, omega (arith, item-first types at depth i w .1, length-drop at types, length-append (printItem i) (w .behind), ap length (w .printed)))

@@ -27,7 +27,19 @@ use Rattle.datatype.proofs.kind.Kind.{the-type as kind-type}
 use Rattle.datatype.proofs.LawsLeaves.{span-fits, counted-fits}
 use Rattle.datatype.proofs.LawsTook.{Took, element-took, item-took}
 use Rattle.datatype.proofs.LawsReading.{elements-more, elements-done}
-use Rattle.datatype.proofs.LawsPlaces.{front, kindIs, item-first, item-place, part-ended, part-item, struct-inner, array-inner, is-value, is-struct, is-array}
+use Rattle.datatype.proofs.LawsPlaces.{
+  front,
+  kindIs,
+  item-first,
+  item-place,
+  part-ended,
+  part-item,
+  struct-inner,
+  array-inner,
+  is-value,
+  is-struct,
+  is-array,
+}
 use Rattle.datatype.proofs.LawsDid.{Onward, did-upto, did-none, did-then, did-not, did-filling}
 
 -- ---- values, and D
@@ -39,7 +51,8 @@ module _ (types : List ℕ) (at depth : ℕ) (part : List ℕ) (from : ℕ) (l l
   reads-value v e d i w = rw (is-value types at depth i v w e) d
 
   pub reads-struct : kindOf (getD types at 0) ≡ kind.Struct
-      → ((t : Items) → PartFrom (drop (at + 2) types) (depth - 1) t → Did (contents (countedAt part from) (λ start stop. partReads t (take stop part) start)) l l′ k r)
+      → ((t : Items) → PartFrom (drop (at + 2) types) (depth - 1) t
+      → Did (contents (countedAt part from) (λ start stop. partReads t (take stop part) start)) l l′ k r)
       → ReadsItem (drop at types) depth part from l l′ k r
   unfolding itemReads
   reads-struct e d i w =

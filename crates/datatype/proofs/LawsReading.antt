@@ -35,7 +35,8 @@ filling-fit stop (upto q ms) p ls e =
     (λ t. let e′ = rw t at e in let same : q ≡ p = cc in (e′, sym same ∙ eqb-true q stop t))
     (λ t. never (rw t at e))
 
-pub leaf-fit : (c : ℕ) (s : Span) (p : ℕ) (ls : List Leaf) → leafReads c s ≡ upto p ls → (start : ℕ) × (size : ℕ) × (s ≡ span.At start size p) × (ls ≡ leafOf c start size ∷ [])
+pub leaf-fit : (c : ℕ) (s : Span) (p : ℕ) (ls : List Leaf) → leafReads c s ≡ upto p ls
+    → (start : ℕ) × (size : ℕ) × (s ≡ span.At start size p) × (ls ≡ leafOf c start size ∷ [])
 unfolding leafReads
 leaf-fit c span.Misfit p ls e = never e
 leaf-fit c (span.At start size next) p ls e = (start, size, cc, cc)

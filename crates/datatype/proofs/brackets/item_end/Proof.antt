@@ -38,7 +38,9 @@ add-result : tie.Need-add-result
 add-result c = let w = c .before .before .before .before in omega (arith, item-first (w .args .types .now) (w .args .at) (w .pre .1) (w .pre .0) (w .pre .2) .1)
 
 returns : tie.Need-returns
-returns c = ends-brackets _ _ _ (c .before .before .kind-of .ensures) _ (tag-brackets (c .before .before .kind-of .result) (c .before .match .keys1)) (c .bracket-end .ensures)
+returns c =
+    let kinded = c .before .before in
+    ends-brackets _ _ _ (kinded .kind-of .ensures) _ (tag-brackets (kinded .kind-of .result) (c .before .match .keys1)) (c .bracket-end .ensures)
 
 returns-2 : tie.Need-returns-2
 returns-2 c = ends-single _ _ _ (c .before .kind-of .ensures) (tag-single (c .before .kind-of .result) (c .match .keys2))

@@ -12,7 +12,23 @@ use Rattle.datatype.specs.declared.kind.Kind.{Kind}
 use Rattle.datatype.specs.declared.check.Scan.the-variants as scan
 use Rattle.datatype.specs.Grammar.{value, rest, struct, array}
 use Rattle.datatype.specs.Parse.{closed, passed, inside, headed, itemOf, partAt, itemAt}
-use Rattle.datatype.proofs.LawsCheck.{Onward, more-left, part-closed, part-bad, part-last, part-not-last, part-next, item-at, inside-none, inside-unopened, inside-nothing, inside-some, brackets-cut, brackets-shut, brackets-item}
+use Rattle.datatype.proofs.LawsCheck.{
+  Onward,
+  more-left,
+  part-closed,
+  part-bad,
+  part-last,
+  part-not-last,
+  part-next,
+  item-at,
+  inside-none,
+  inside-unopened,
+  inside-nothing,
+  inside-some,
+  brackets-cut,
+  brackets-shut,
+  brackets-item,
+}
 use Rattle.datatype.proofs.check.check_inside.Reads as check-inside
 use Rattle.datatype.proofs.check.check_inside.Kinds as check-inside-kinds
 use Rattle.datatype.proofs.check.+check_inside+check_item+check_sequence.Lts-check_inside as check-inside-lts

@@ -23,7 +23,10 @@ add-put-number : tie.Need-add-put-number
 add-put-number c = search needs
 
 cast-put-number : tie.Need-cast-put-number
-cast-put-number c = let small = rw (c .before .before .before .before .before .before .span .given .1) at (c .before .before .before .before .before .before .before .before .before .pre .1) in omega arith
+cast-put-number c =
+    let known = c .before .before .before .before .before .before in
+    let small = rw (known .span .given .1) at (known .before .before .before .pre .1) in
+    omega arith
 
 put-number-requires-2 : tie.Need-put-number-requires-2
 put-number-requires-2 c κs = search needs
@@ -32,7 +35,10 @@ add-put-number-2 : tie.Need-add-put-number-2
 add-put-number-2 c = search needs
 
 cast-put-number-2 : tie.Need-cast-put-number-2
-cast-put-number-2 c = let small = rw (c .before .before .before .before .before .before .before .before .before .before .span .given .1) at (c .before .before .before .before .before .before .before .before .before .before .before .before .before .pre .1) in omega arith
+cast-put-number-2 c =
+    let known = c .before .before .before .before .before .before .before .before .before .before in
+    let small = rw (known .span .given .1) at (known .before .before .before .pre .1) in
+    omega arith
 
 put-number-requires-3 : tie.Need-put-number-requires-3
 put-number-requires-3 c κs = search needs

@@ -121,12 +121,17 @@ module _ (t : ℕ) (c : item-lts.After-kind-of (item-claims t) (item-at t) item.
   item-struct : c .kind-of .result ≡ kind.Struct → let a = c .before .before .before .before .before .args in
       (0 < a .depth) × (a .at + 2 ≤ length (a .types .now)) × ((u : Items) × PartFrom (drop (a .at + 2) (a .types .now)) (a .depth - 1) u)
   item-struct e =
-      let start = c .before .before .before .before .before in struct-at (start .args .types .now) (start .args .at) (start .args .depth) (start .pre .1 .0) (item-kind kind.Struct e)
+      let start = c .before .before .before .before .before in
+      let a = start .args in
+      struct-at (a .types .now) (a .at) (a .depth) (start .pre .1 .0) (item-kind kind.Struct e)
 
   -- the tree of an A
-  item-array : c .kind-of .result ≡ kind.Array → let a = c .before .before .before .before .before .args in (u : Items) × ItemFrom (drop (a .at) (a .types .now)) (a .depth) (array u)
+  item-array : c .kind-of .result ≡ kind.Array → let a = c .before .before .before .before .before .args in
+      (u : Items) × ItemFrom (drop (a .at) (a .types .now)) (a .depth) (array u)
   item-array e =
-      let start = c .before .before .before .before .before in array-at (start .args .types .now) (start .args .at) (start .args .depth) (start .pre .1 .0) (item-kind kind.Array e)
+      let start = c .before .before .before .before .before in
+      let a = start .args in
+      array-at (a .types .now) (a .at) (a .depth) (start .pre .1 .0) (item-kind kind.Array e)
 
 item-enum-known-value : (t : ℕ) → item-lts.Need-enum-known-value (item-claims t) (item-at t) item.Post item-inv item-μ
 item-enum-known-value t c = search needs
@@ -240,7 +245,8 @@ module _ (t : ℕ) (c : item-lts.After-known-told3 (item-claims t) (item-at t) i
       let a = told .before .before .before .before .before .before .before .args in
       let w = item-array t (told .before .before) (told .enum-told3 .given .1) in
       let element = c .before .before .before .before .before .read-sequence2 .ensures in
-      element-room (a .types .now) _ (a .at) _ _ _ _ _ _ (w .0) (w .1) (c .before .before .before .before .before .before .before .loop-test .taken) element _ _ (c .before .reached .given .1) (looped .loop .inv .1)
+      let test = c .before .before .before .before .before .before .before .loop-test .taken in
+      element-room (a .types .now) _ (a .at) _ _ _ _ _ _ (w .0) (w .1) test element _ _ (c .before .reached .given .1) (looped .loop .inv .1)
 
 item-loop-less : (t : ℕ) → item-lts.Need-loop-less (item-claims t) (item-at t) item.Post item-inv item-μ
 item-loop-less t c = omega (arith, item-turn t c)
@@ -328,13 +334,15 @@ sequence-μ types at depth part from list₀ leaves place₀ next₀ count₀ li
 
 -- where there is an item, and the part that is left for each part from the start
 module _ (t : ℕ) (c : sequence-lts.Else1 (sequence-claims t) (sequence-at t) sequence.Post sequence-inv sequence-μ) where
-  sequence-going : let loop = c .before .before .loop in closed (drop (loop .place) (c .before .before .before .before .before .before .args .types .now)) ≡ false
+  sequence-going : closed (drop (c .before .before .loop .place) (c .before .before .before .before .before .before .args .types .now)) ≡ false
   sequence-going = sym (c .before .closed .ensures) ∙ c .if1 .left
 
-  sequence-left : let a = c .before .before .before .before .before .before .args in (u : Items) × PartFrom (drop (c .before .before .loop .place) (a .types .now)) (a .depth) u
+  sequence-left : let a = c .before .before .before .before .before .before .args in
+      (u : Items) × PartFrom (drop (c .before .before .loop .place) (a .types .now)) (a .depth) u
   sequence-left = let w = c .before .before .before .before .before .before .pre .1 .0 in let v = c .before .before .loop .inv .3 (w .0) (w .1) in (v .0, v .1)
 
-  sequence-item : let a = c .before .before .before .before .before .before .args in (i : Item) × ItemFrom (drop (c .before .before .loop .place) (a .types .now)) (a .depth) i
+  sequence-item : let a = c .before .before .before .before .before .before .args in
+      (i : Item) × ItemFrom (drop (c .before .before .loop .place) (a .types .now)) (a .depth) i
   sequence-item =
       let a = c .before .before .before .before .before .before .args in
       let x = part-item (drop (c .before .before .loop .place) (a .types .now)) (a .depth) (sequence-left .0) sequence-going (sequence-left .1) in
@@ -382,7 +390,9 @@ sequence-item-end-requires t c κs = let x = sequence-item t (c .before .before 
 
 -- an item more, and the place behind it
 module _ (t : ℕ) (c : sequence-lts.After-item-end (sequence-claims t) (sequence-at t) sequence.Post sequence-inv sequence-μ) where
-  sequence-turn : let asked = c .before .before .before .before .before .before .before .before in let a = asked .before .before .before .before .before .before .args in let reached = c .before .before .reached .given in
+  sequence-turn : let asked = c .before .before .before .before .before .before .before .before in
+      let a = asked .before .before .before .before .before .before .args in
+      let reached = c .before .before .reached .given in
       (asked .before .before .loop .place < c .item-end .result)
       × Room (a .types .now) (a .part .now) (c .item-end .result) (reached .0 .0) (reached .0 .1 .0)
   sequence-turn =
@@ -390,7 +400,8 @@ module _ (t : ℕ) (c : sequence-lts.After-item-end (sequence-claims t) (sequenc
       let v = sequence-left t asked in
       let item = c .before .before .before .before .before .before .read-item .ensures in
       let loop = asked .before .before .loop in
-      turn-room _ _ (loop .place) _ _ _ _ _ _ (v .0) (v .1) (sequence-going t asked) item _ _ (c .before .before .reached .given .1) _ (c .item-end .ensures) (loop .inv .0)
+      let reached = c .before .before .reached .given .1 in
+      turn-room _ _ (loop .place) _ _ _ _ _ _ (v .0) (v .1) (sequence-going t asked) item _ _ reached _ (c .item-end .ensures) (loop .inv .0)
 
 sequence-loop-less : (t : ℕ) → sequence-lts.Need-loop-less (sequence-claims t) (sequence-at t) sequence.Post sequence-inv sequence-μ
 sequence-loop-less t c = let w = sequence-turn t c in omega (arith, w .0, w .1 .placed)

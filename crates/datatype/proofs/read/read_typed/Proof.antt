@@ -44,7 +44,8 @@ mul-if3 c =
     let tested = first .before .before in
     let typed = sym (tested .before .before .is-type .ensures) ∙ tested .before .if1 .taken in
     let lent = first .read-sequence .kept .1 .1 .1 .1 .1 .0 in
-    omega (arith, few-leaves _ _ [] typed (tested .if2 .left) _ _ lent _ _ (first .read-sequence .ensures) (filled .filling .ensures) _ _ (c .before .leaves .given .1))
+    let reads = first .read-sequence .ensures in
+    omega (arith, few-leaves _ _ [] typed (tested .if2 .left) _ _ lent _ _ reads (filled .filling .ensures) _ _ (c .before .leaves .given .1))
 
 same-length : tie.Need-same-length
 same-length c = search needs
@@ -56,7 +57,8 @@ returns-2 c =
     let tested = first .before .before in
     let typed = sym (tested .before .before .is-type .ensures) ∙ tested .before .if1 .taken in
     let lent = first .read-sequence .kept .1 .1 .1 .1 .1 .0 in
-    answers-short _ _ _ typed (tested .if2 .left) _ _ lent _ _ (first .read-sequence .ensures) (filled .filling .ensures) _ _ (c .before .before .leaves .given .1) (c .if3 .taken)
+    let reads = first .read-sequence .ensures in
+    answers-short _ _ _ typed (tested .if2 .left) _ _ lent _ _ reads (filled .filling .ensures) _ _ (c .before .before .leaves .given .1) (c .if3 .taken)
 
 read-sequence-requires-2 : tie.Need-read-sequence-requires-2
 read-sequence-requires-2 c κs =
@@ -74,7 +76,8 @@ returns-3 c =
     let tested = first .before .before in
     let typed = sym (tested .before .before .is-type .ensures) ∙ tested .before .if1 .taken in
     let lent = first .read-sequence .kept .1 .1 .1 .1 .1 .0 in
-    answers-misfit _ _ _ typed (tested .if2 .left) _ _ lent _ _ (first .read-sequence .ensures) (filled .filling .ensures) (c .enum-told .given .1)
+    let reads = first .read-sequence .ensures in
+    answers-misfit _ _ _ typed (tested .if2 .left) _ _ lent _ _ reads (filled .filling .ensures) (c .enum-told .given .1)
 
 same-length-3 : tie.Need-same-length-3
 same-length-3 c = search needs
@@ -86,7 +89,9 @@ returns-4 c =
     let tested = first .before .before in
     let typed = sym (tested .before .before .is-type .ensures) ∙ tested .before .if1 .taken in
     let lent = first .read-sequence .kept .1 .1 .1 .1 .1 .0 in
-    answers-leaves _ _ _ typed (tested .if2 .left) _ _ lent _ _ (first .read-sequence .ensures) (filled .filling .ensures) _ _ (c .before .before .before .before .before .before .leaves .given .1) (c .before .before .before .before .if3 .left) _ _
+    let reads = first .read-sequence .ensures in
+    let counted = c .before .before .before .before .before .before .leaves .given .1 in
+    answers-leaves _ _ _ typed (tested .if2 .left) _ _ lent _ _ reads (filled .filling .ensures) _ _ counted (c .before .before .before .before .if3 .left) _ _
     (c .before .before .read-sequence2 .ensures)
 
 returns-5 : tie.Need-returns-5
