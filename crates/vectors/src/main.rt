@@ -4,6 +4,7 @@ mod checks;
 mod frames;
 mod integers;
 mod show;
+mod types;
 mod wires;
 
 fn main() {
@@ -12,4 +13,5 @@ fn main() {
     frames::run();
     wires::run();
     wires::run_long();
+    types::run();
 }

@@ -1,6 +1,8 @@
 -- The part that is the whole string, if it ends where the string does. Assumes nothing.
+use native.Mathlib.Omega.{arith}
 use borrow.Author.Needs.{needs}
 use borrow.Author.Tests.{lt-ltb, le-ltb}
+use lib.ListN.{length}
 use Rattle.datatype.specs.Parse.{typeOf, whole}
 use Rattle.datatype.proofs.LawsCheck.{whole-ends}
 use Rattle.datatype.proofs.check.is_type.Statement.{statement}
@@ -8,7 +10,7 @@ use Rattle.datatype.proofs.check.is_type.Tie as tie
 
 returns : tie.Need-returns
 unfolding typeOf
-returns c = rw (lt-ltb _ _ (c .if1 .taken))
+returns c = rw (lt-ltb 64 (length (c .before .before .args .types .now)) (omega arith))
 
 check-sequence-requires : tie.Need-check-sequence-requires
 check-sequence-requires c κs = search needs
@@ -21,12 +23,12 @@ enum-known-end c = search needs
 
 returns-2 : tie.Need-returns-2
 unfolding typeOf whole
-returns-2 c = rw (le-ltb _ _ (c .before .before .before .if1 .left), rw (c .enum-told .given .1) at (c .before .before .check-sequence .ensures))
+returns-2 c = rw (le-ltb 64 (length (c .before .before .before .before .before .args .types .now)) (omega arith), rw (c .enum-told .given .1) at (c .before .before .check-sequence .ensures))
 
 returns-3 : tie.Need-returns-3
 unfolding typeOf
 returns-3 c =
-    rw (le-ltb _ _ (c .before .before .before .before .if1 .left))
+    rw (le-ltb 64 (length (c .before .before .before .before .before .before .args .types .now)) (omega arith))
     (whole-ends _ _ (rw (c .before .end .given .1) at (c .before .before .before .check-sequence .ensures)))
 
 pub is-type-spec : {M : Type 1} → statement M

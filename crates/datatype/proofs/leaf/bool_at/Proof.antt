@@ -14,7 +14,7 @@ shared-slice-read-if2 c = search needs
 
 returns : tie.Need-returns
 unfolding boolAt
-returns c = rw (lt-leb _ _ (c .if2 .taken))
+returns c = let a = c .before .before .before .before .args in rw (lt-leb (getD (a .part .now) (a .from) 0) 1 (omega arith))
 
 fixed-at-requires : tie.Need-fixed-at-requires
 fixed-at-requires c κs = search needs

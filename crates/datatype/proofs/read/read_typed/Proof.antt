@@ -11,7 +11,7 @@ is-type-requires : tie.Need-is-type-requires
 is-type-requires c κs = search needs
 
 returns : tie.Need-returns
-returns c = answers-long _ _ _ (sym (c .before .before .is-type .ensures) ∙ c .before .if1 .taken) (c .if2 .taken)
+returns c = answers-long _ _ _ (sym (c .before .before .is-type .ensures) ∙ c .before .if1 .taken) (omega arith)
 
 sub-read-sequence : tie.Need-sub-read-sequence
 sub-read-sequence c = search needs
@@ -26,7 +26,7 @@ read-sequence-requires : tie.Need-read-sequence-requires
 read-sequence-requires c κs =
     let tested = c .before in
     let typed = sym (tested .before .before .is-type .ensures) ∙ tested .before .if1 .taken in
-    readable _ _ [] typed (tested .if2 .left)
+    readable _ _ [] typed (omega arith)
 
 filling-requires : tie.Need-filling-requires
 filling-requires c κs = search needs
@@ -45,7 +45,7 @@ mul-if3 c =
     let typed = sym (tested .before .before .is-type .ensures) ∙ tested .before .if1 .taken in
     let lent = first .read-sequence .kept .1 .1 .1 .1 .1 .0 in
     let reads = first .read-sequence .ensures in
-    omega (arith, few-leaves _ _ [] typed (tested .if2 .left) _ _ lent _ _ reads (filled .filling .ensures) _ _ (c .before .leaves .given .1))
+    omega (arith, few-leaves _ _ [] typed (omega arith) _ _ lent _ _ reads (filled .filling .ensures) _ _ (c .before .leaves .given .1))
 
 same-length : tie.Need-same-length
 same-length c = search needs
@@ -58,13 +58,13 @@ returns-2 c =
     let typed = sym (tested .before .before .is-type .ensures) ∙ tested .before .if1 .taken in
     let lent = first .read-sequence .kept .1 .1 .1 .1 .1 .0 in
     let reads = first .read-sequence .ensures in
-    answers-short _ _ _ typed (tested .if2 .left) _ _ lent _ _ reads (filled .filling .ensures) _ _ (c .before .before .leaves .given .1) (c .if3 .taken)
+    answers-short _ _ _ typed (omega arith) _ _ lent _ _ reads (filled .filling .ensures) _ _ (c .before .before .leaves .given .1) (omega arith)
 
 read-sequence-requires-2 : tie.Need-read-sequence-requires-2
 read-sequence-requires-2 c κs =
     let tested = c .before .before .before .before .before .before .before .before .before .before in
     let typed = sym (tested .before .before .is-type .ensures) ∙ tested .before .if1 .taken in
-    readable _ _ [] typed (tested .if2 .left)
+    readable _ _ [] typed (omega arith)
 
 same-length-2 : tie.Need-same-length-2
 same-length-2 c = search needs
@@ -77,7 +77,7 @@ returns-3 c =
     let typed = sym (tested .before .before .is-type .ensures) ∙ tested .before .if1 .taken in
     let lent = first .read-sequence .kept .1 .1 .1 .1 .1 .0 in
     let reads = first .read-sequence .ensures in
-    answers-misfit _ _ _ typed (tested .if2 .left) _ _ lent _ _ reads (filled .filling .ensures) (c .enum-told .given .1)
+    answers-misfit _ _ _ typed (omega arith) _ _ lent _ _ reads (filled .filling .ensures) (c .enum-told .given .1)
 
 same-length-3 : tie.Need-same-length-3
 same-length-3 c = search needs
@@ -91,7 +91,7 @@ returns-4 c =
     let lent = first .read-sequence .kept .1 .1 .1 .1 .1 .0 in
     let reads = first .read-sequence .ensures in
     let counted = c .before .before .before .before .before .before .leaves .given .1 in
-    answers-leaves _ _ _ typed (tested .if2 .left) _ _ lent _ _ reads (filled .filling .ensures) _ _ counted (c .before .before .before .before .if3 .left) _ _
+    answers-leaves _ _ _ typed (omega arith) _ _ lent _ _ reads (filled .filling .ensures) _ _ counted (omega arith) _ _
     (c .before .before .read-sequence2 .ensures)
 
 returns-5 : tie.Need-returns-5
