@@ -115,9 +115,6 @@ check-inside-returns-3 t c =
 check-inside-add-first : (t : ℕ) → check-inside-lts.Need-add-first (check-inside-claims t) (check-inside-at t) check-inside.Post
 check-inside-add-first t c = omega arith
 
-check-inside-closed-requires : (t : ℕ) → check-inside-lts.Need-closed-requires (check-inside-claims t) (check-inside-at t) check-inside.Post
-check-inside-closed-requires t c κs = search needs
-
 check-inside-returns-4 : (t : ℕ) → check-inside-lts.Need-returns-4 (check-inside-claims t) (check-inside-at t) check-inside.Post
 check-inside-returns-4 t c =
     let s = c .before .before .before .before in
@@ -126,15 +123,6 @@ check-inside-returns-4 t c =
 
 check-inside-sub-check-sequence : (t : ℕ) → check-inside-lts.Need-sub-check-sequence (check-inside-claims t) (check-inside-at t) check-inside.Post
 check-inside-sub-check-sequence t c = omega arith
-
-check-inside-check-sequence-requires : (t : ℕ) → check-inside-lts.Need-check-sequence-requires (check-inside-claims t) (check-inside-at t) check-inside.Post
-check-inside-check-sequence-requires t c κs = search needs
-
-check-inside-enum-told : (t : ℕ) → check-inside-lts.Need-enum-told (check-inside-claims t) (check-inside-at t) check-inside.Post
-check-inside-enum-told t c = search needs
-
-check-inside-enum-known-end : (t : ℕ) → check-inside-lts.Need-enum-known-end (check-inside-claims t) (check-inside-at t) check-inside.Post
-check-inside-enum-known-end t c = search needs
 
 -- the brackets hold an item
 check-inside-part : (t : ℕ) (c : check-inside-lts.Else4 (check-inside-claims t) (check-inside-at t) check-inside.Post)
@@ -179,49 +167,13 @@ check-item-add-after t c = omega arith
 check-item-shared-slice-read-kind-of : (t : ℕ) → check-item-lts.Need-shared-slice-read-kind-of (check-item-claims t) (check-item-at t) check-item.Post
 check-item-shared-slice-read-kind-of t c = omega arith
 
-check-item-kind-of-requires : (t : ℕ) → check-item-lts.Need-kind-of-requires (check-item-claims t) (check-item-at t) check-item.Post
-check-item-kind-of-requires t c κs = search needs
-
-check-item-enum-told : (t : ℕ) → check-item-lts.Need-enum-told (check-item-claims t) (check-item-at t) check-item.Post
-check-item-enum-told t c = search needs
-
-check-item-enum-told-2 : (t : ℕ) → check-item-lts.Need-enum-told-2 (check-item-claims t) (check-item-at t) check-item.Post
-check-item-enum-told-2 t c = search needs
-
 check-item-returns : (t : ℕ) → check-item-lts.Need-returns (check-item-claims t) (check-item-at t) check-item.Post
 unfolding itemOf
 check-item-returns t c = check-item-of t (c .before .before .before) (c .before .enum-told2 .given .1) ∙ rw (c .if1 .taken)
 
-check-item-enum-told-3 : (t : ℕ) → check-item-lts.Need-enum-told-3 (check-item-claims t) (check-item-at t) check-item.Post
-check-item-enum-told-3 t c = search needs
-
-check-item-check-inside-requires : (t : ℕ) → check-item-lts.Need-check-inside-requires (check-item-claims t) (check-item-at t) check-item.Post
-check-item-check-inside-requires t c κs = search needs
-
-check-item-enum-told-4 : (t : ℕ) → check-item-lts.Need-enum-told-4 (check-item-claims t) (check-item-at t) check-item.Post
-check-item-enum-told-4 t c = search needs
-
-check-item-enum-known-end : (t : ℕ) → check-item-lts.Need-enum-known-end (check-item-claims t) (check-item-at t) check-item.Post
-check-item-enum-known-end t c = search needs
-
-check-item-enum-told-5 : (t : ℕ) → check-item-lts.Need-enum-told-5 (check-item-claims t) (check-item-at t) check-item.Post
-check-item-enum-told-5 t c = search needs
-
 check-item-returns-2 : (t : ℕ) → check-item-lts.Need-returns-2 (check-item-claims t) (check-item-at t) check-item.Post
 unfolding itemOf
 check-item-returns-2 t c = check-item-of t (c .before .before .before) (c .before .enum-told5 .given .1) ∙ rw (c .if2 .taken)
-
-check-item-check-inside-requires-2 : (t : ℕ) → check-item-lts.Need-check-inside-requires-2 (check-item-claims t) (check-item-at t) check-item.Post
-check-item-check-inside-requires-2 t c κs = search needs
-
-check-item-enum-told-6 : (t : ℕ) → check-item-lts.Need-enum-told-6 (check-item-claims t) (check-item-at t) check-item.Post
-check-item-enum-told-6 t c = search needs
-
-check-item-enum-known-end-2 : (t : ℕ) → check-item-lts.Need-enum-known-end-2 (check-item-claims t) (check-item-at t) check-item.Post
-check-item-enum-known-end-2 t c = search needs
-
-check-item-enum-told-7 : (t : ℕ) → check-item-lts.Need-enum-told-7 (check-item-claims t) (check-item-at t) check-item.Post
-check-item-enum-told-7 t c = search needs
 
 check-item-returns-3 : (t : ℕ) → check-item-lts.Need-returns-3 (check-item-claims t) (check-item-at t) check-item.Post
 unfolding itemOf
@@ -353,12 +305,12 @@ pub +check-inside+check-item+check-sequence-spec : {M : Type 1} → statement M
     (check-inside-shared-slice-read-if3 t)
     (check-inside-returns-3 t)
     (check-inside-add-first t)
-    (check-inside-closed-requires t)
+    (λ c κs. search needs)
     (check-inside-returns-4 t)
     (check-inside-sub-check-sequence t)
-    (check-inside-check-sequence-requires t)
-    (check-inside-enum-told t)
-    (check-inside-enum-known-end t)
+    (λ c κs. search needs)
+    (λ c. search needs)
+    (λ c. search needs)
     (check-inside-returns-5 t)
     (check-inside-add-t14 t)
     (check-inside-returns-6 t)
@@ -367,20 +319,20 @@ pub +check-inside+check-item+check-sequence-spec : {M : Type 1} → statement M
     check-item.Post
     (check-item-add-after t)
     (check-item-shared-slice-read-kind-of t)
-    (check-item-kind-of-requires t)
-    (check-item-enum-told t)
-    (check-item-enum-told-2 t)
+    (λ c κs. search needs)
+    (λ c. search needs)
+    (λ c. search needs)
     (check-item-returns t)
-    (check-item-enum-told-3 t)
-    (check-item-check-inside-requires t)
-    (check-item-enum-told-4 t)
-    (check-item-enum-known-end t)
-    (check-item-enum-told-5 t)
+    (λ c. search needs)
+    (λ c κs. search needs)
+    (λ c. search needs)
+    (λ c. search needs)
+    (λ c. search needs)
     (check-item-returns-2 t)
-    (check-item-check-inside-requires-2 t)
-    (check-item-enum-told-6 t)
-    (check-item-enum-known-end-2 t)
-    (check-item-enum-told-7 t)
+    (λ c κs. search needs)
+    (λ c. search needs)
+    (λ c. search needs)
+    (λ c. search needs)
     (check-item-returns-3 t)
     (check-item-returns-4 t)
     (check-item-returns-5 t)

@@ -109,9 +109,6 @@ item-μ types at depth part from list₀ leaves letter next₀ count₀ list nex
 item-shared-slice-read-letter : (t : ℕ) → item-lts.Need-shared-slice-read-letter (item-claims t) (item-at t) item.Post item-inv item-μ
 item-shared-slice-read-letter t c = let w = c .before .before .before .before .pre .1 .0 in item-first _ _ _ (w .0) (w .1) .1
 
-item-kind-of-requires : (t : ℕ) → item-lts.Need-kind-of-requires (item-claims t) (item-at t) item.Post item-inv item-μ
-item-kind-of-requires t c κs = search needs
-
 -- what is known behind `kind_of`
 module _ (t : ℕ) (c : item-lts.After-kind-of (item-claims t) (item-at t) item.Post item-inv item-μ) where
   item-kind : (k : Kind) → c .kind-of .result ≡ k → let a = c .before .before .before .before .before .args in kindOf (getD (a .types .now) (a .at) 0) ≡ k
@@ -133,12 +130,6 @@ module _ (t : ℕ) (c : item-lts.After-kind-of (item-claims t) (item-at t) item.
       let a = start .args in
       array-at (a .types .now) (a .at) (a .depth) (start .pre .1 .0) (item-kind kind.Array e)
 
-item-enum-known-value : (t : ℕ) → item-lts.Need-enum-known-value (item-claims t) (item-at t) item.Post item-inv item-μ
-item-enum-known-value t c = search needs
-
-item-span-of-requires : (t : ℕ) → item-lts.Need-span-of-requires (item-claims t) (item-at t) item.Post item-inv item-μ
-item-span-of-requires t c κs = search needs
-
 item-put-leaf-requires : (t : ℕ) → item-lts.Need-put-leaf-requires (item-claims t) (item-at t) item.Post item-inv item-μ
 item-put-leaf-requires t c κs =
     let kinded = c .before .before .before .before .before in
@@ -146,29 +137,8 @@ item-put-leaf-requires t c κs =
     let of-kind = item-kind t kinded _ (c .before .before .before .value .given .1) in
     (omega (arith, room .few, room .short), span-small _ _ _ _ _ (room .within) (room .short) of-kind (c .span-of .ensures))
 
-item-enum-told : (t : ℕ) → item-lts.Need-enum-told (item-claims t) (item-at t) item.Post item-inv item-μ
-item-enum-told t c = search needs
-
-item-counted-at-requires : (t : ℕ) → item-lts.Need-counted-at-requires (item-claims t) (item-at t) item.Post item-inv item-μ
-item-counted-at-requires t c κs = search needs
-
-item-enum-told-2 : (t : ℕ) → item-lts.Need-enum-told-2 (item-claims t) (item-at t) item.Post item-inv item-μ
-item-enum-told-2 t c = search needs
-
-item-enum-known-start : (t : ℕ) → item-lts.Need-enum-known-start (item-claims t) (item-at t) item.Post item-inv item-μ
-item-enum-known-start t c = search needs
-
-item-add-read-sequence : (t : ℕ) → item-lts.Need-add-read-sequence (item-claims t) (item-at t) item.Post item-inv item-μ
-item-add-read-sequence t c = search needs
-
 item-sub-read-sequence : (t : ℕ) → item-lts.Need-sub-read-sequence (item-claims t) (item-at t) item.Post item-inv item-μ
 item-sub-read-sequence t c = let told = c .before .before .before .before in omega (arith, item-struct t (told .before .before) (told .enum-told .given .1) .0)
-
-item-sub-read-sequence-2 : (t : ℕ) → item-lts.Need-sub-read-sequence-2 (item-claims t) (item-at t) item.Post item-inv item-μ
-item-sub-read-sequence-2 t c = search needs
-
-item-part-read-sequence-start : (t : ℕ) → item-lts.Need-part-read-sequence-start (item-claims t) (item-at t) item.Post item-inv item-μ
-item-part-read-sequence-start t c = search needs
 
 item-part-read-sequence-end : (t : ℕ) → item-lts.Need-part-read-sequence-end (item-claims t) (item-at t) item.Post item-inv item-μ
 item-part-read-sequence-end t c =
@@ -183,18 +153,6 @@ item-read-sequence-requires t c κs =
     let w = item-struct t (told .before .before) (told .enum-told .given .1) in
     let counted = sym (c .before .before .before .before .before .counted-at .ensures) ∙ c .before .before .before .start .given .1 in
     (omega (arith, w .0, w .1), (w .2, struct-room _ _ _ _ _ _ _ _ room (w .1) counted))
-
-item-filling-requires : (t : ℕ) → item-lts.Need-filling-requires (item-claims t) (item-at t) item.Post item-inv item-μ
-item-filling-requires t c κs = search needs
-
-item-enum-told-3 : (t : ℕ) → item-lts.Need-enum-told-3 (item-claims t) (item-at t) item.Post item-inv item-μ
-item-enum-told-3 t c = search needs
-
-item-loop-holds : (t : ℕ) → item-lts.Need-loop-holds (item-claims t) (item-at t) item.Post item-inv item-μ
-item-loop-holds t c = search needs
-
-item-add-read-sequence-2 : (t : ℕ) → item-lts.Need-add-read-sequence-2 (item-claims t) (item-at t) item.Post item-inv item-μ
-item-add-read-sequence-2 t c = search needs
 
 item-sub-read-sequence-3 : (t : ℕ) → item-lts.Need-sub-read-sequence-3 (item-claims t) (item-at t) item.Post item-inv item-μ
 item-sub-read-sequence-3 t c =
@@ -215,12 +173,6 @@ item-read-sequence-requires-2 t c κs =
       ((w .0, inner .2), record { few = room .few; placed = inner .1; short = room .short; within = loop .inv .0; counted = omega (arith, loop .inv .1) }),
     )
 
-item-enum-told-4 : (t : ℕ) → item-lts.Need-enum-told-4 (item-claims t) (item-at t) item.Post item-inv item-μ
-item-enum-told-4 t c = search needs
-
-item-same-length : (t : ℕ) → item-lts.Need-same-length (item-claims t) (item-at t) item.Post item-inv item-μ
-item-same-length t c = search needs
-
 item-returns : (t : ℕ) → item-lts.Need-returns (item-claims t) (item-at t) item.Post item-inv item-μ
 item-returns t c =
     let looped = c .before .before .before .before .before .before .before in
@@ -230,9 +182,6 @@ item-returns t c =
     let test = c .before .before .before .before .before .before .loop-test .taken in
     reads-array (a .types .now) (a .at) _ _ _ _ _ _ _ (item-kind t (told .before .before) _ (told .enum-told3 .given .1))
     (λ u w. looped .loop .inv .3 u w _ _ (element-misfit (a .types .now) _ (a .at) _ _ _ _ _ _ u w test element _ (c .enum-told4 .given .1)))
-
-item-enum-known-reached : (t : ℕ) → item-lts.Need-enum-known-reached (item-claims t) (item-at t) item.Post item-inv item-μ
-item-enum-known-reached t c = search needs
 
 -- an element more
 module _ (t : ℕ) (c : item-lts.After-known-told3 (item-claims t) (item-at t) item.Post item-inv item-μ) where
@@ -264,14 +213,8 @@ item-loop-again t c =
       λ u w r l₂ d. looped .loop .inv .3 u w r l₂ (element-on (a .types .now) _ (a .at) _ _ _ _ _ _ u w test element _ _ (c .before .reached .given .1) r l₂ d),
     )
 
-item-rest-of-requires : (t : ℕ) → item-lts.Need-rest-of-requires (item-claims t) (item-at t) item.Post item-inv item-μ
-item-rest-of-requires t c κs = search needs
-
 item-put-leaf-requires-2 : (t : ℕ) → item-lts.Need-put-leaf-requires-2 (item-claims t) (item-at t) item.Post item-inv item-μ
 item-put-leaf-requires-2 t c κs = rw (c .rest-of .ensures) (search needs)
-
-item-same-length-2 : (t : ℕ) → item-lts.Need-same-length-2 (item-claims t) (item-at t) item.Post item-inv item-μ
-item-same-length-2 t c = search needs
 
 item-returns-2 : (t : ℕ) → item-lts.Need-returns-2 (item-claims t) (item-at t) item.Post item-inv item-μ
 item-returns-2 t c =
@@ -287,9 +230,6 @@ item-returns-3 t c =
     let of-kind = item-kind t (told .before .before) _ (told .enum-told .given .1) in
     struct-misfit (a .types .now) (a .at) _ _ _ _ _ _ of-kind (sym (c .before .before .counted-at .ensures) ∙ c .enum-told2 .given .1)
 
-item-same-length-3 : (t : ℕ) → item-lts.Need-same-length-3 (item-claims t) (item-at t) item.Post item-inv item-μ
-item-same-length-3 t c = search needs
-
 item-returns-4 : (t : ℕ) → item-lts.Need-returns-4 (item-claims t) (item-at t) item.Post item-inv item-μ
 item-returns-4 t c =
     let counted-place = c .before .before .before .before .before .before .before .before .before in
@@ -299,9 +239,6 @@ item-returns-4 t c =
     let counted = sym (counted-place .counted-at .ensures) ∙ c .before .before .before .before .before .before .before .start .given .1 in
     rw (c .filling .ensures) (struct-reads (a .types .now) (a .at) _ _ _ _ _ _ of-kind _ _ _ _ counted (c .before .before .before .read-sequence .ensures))
 
-item-same-length-4 : (t : ℕ) → item-lts.Need-same-length-4 (item-claims t) (item-at t) item.Post item-inv item-μ
-item-same-length-4 t c = search needs
-
 item-returns-5 : (t : ℕ) → item-lts.Need-returns-5 (item-claims t) (item-at t) item.Post item-inv item-μ
 item-returns-5 t c =
     let loop = c .before .loop in
@@ -309,9 +246,6 @@ item-returns-5 t c =
     let a = told .before .before .before .before .before .before .before .args in
     reads-array (a .types .now) (a .at) _ _ _ _ _ _ _ (item-kind t (told .before .before) _ (told .enum-told3 .given .1))
     (λ u w. loop .inv .3 u w _ _ (elements-end u _ (loop .next) _ (loop .count) (c .loop-test .left)))
-
-item-same-length-5 : (t : ℕ) → item-lts.Need-same-length-5 (item-claims t) (item-at t) item.Post item-inv item-μ
-item-same-length-5 t c = search needs
 
 item-returns-6 : (t : ℕ) → item-lts.Need-returns-6 (item-claims t) (item-at t) item.Post item-inv item-μ
 item-returns-6 t c =
@@ -348,15 +282,6 @@ module _ (t : ℕ) (c : sequence-lts.Else1 (sequence-claims t) (sequence-at t) s
       let x = part-item (drop (c .before .before .loop .place) (a .types .now)) (a .depth) (sequence-left .0) sequence-going (sequence-left .1) in
       (x .0, x .3)
 
-sequence-loop-holds : (t : ℕ) → sequence-lts.Need-loop-holds (sequence-claims t) (sequence-at t) sequence.Post sequence-inv sequence-μ
-sequence-loop-holds t c = search needs
-
-sequence-closed-requires : (t : ℕ) → sequence-lts.Need-closed-requires (sequence-claims t) (sequence-at t) sequence.Post sequence-inv sequence-μ
-sequence-closed-requires t c κs = search needs
-
-sequence-same-length : (t : ℕ) → sequence-lts.Need-same-length (sequence-claims t) (sequence-at t) sequence.Post sequence-inv sequence-μ
-sequence-same-length t c = search needs
-
 sequence-returns : (t : ℕ) → sequence-lts.Need-returns (sequence-claims t) (sequence-at t) sequence.Post sequence-inv sequence-μ
 sequence-returns t c = λ u w.
     let loop = c .before .before .loop in
@@ -367,12 +292,6 @@ sequence-returns t c = λ u w.
 sequence-read-item-requires : (t : ℕ) → sequence-lts.Need-read-item-requires (sequence-claims t) (sequence-at t) sequence.Post sequence-inv sequence-μ
 sequence-read-item-requires t c κs = (omega arith, (sequence-item t (c .before), c .before .before .before .loop .inv .0))
 
-sequence-enum-told : (t : ℕ) → sequence-lts.Need-enum-told (sequence-claims t) (sequence-at t) sequence.Post sequence-inv sequence-μ
-sequence-enum-told t c = search needs
-
-sequence-same-length-2 : (t : ℕ) → sequence-lts.Need-same-length-2 (sequence-claims t) (sequence-at t) sequence.Post sequence-inv sequence-μ
-sequence-same-length-2 t c = search needs
-
 sequence-returns-2 : (t : ℕ) → sequence-lts.Need-returns-2 (sequence-claims t) (sequence-at t) sequence.Post sequence-inv sequence-μ
 sequence-returns-2 t c = λ u w.
     let asked = c .before .before .before .before .before .before in
@@ -381,9 +300,6 @@ sequence-returns-2 t c = λ u w.
     let v = loop .inv .3 u w in
     let item = c .before .before .before .before .read-item .ensures in
     v .2 _ _ (turn-misfit types _ (loop .place) _ _ _ _ _ _ (v .0) (v .1) (sequence-going t asked) item _ (c .enum-told .given .1))
-
-sequence-enum-known-reached : (t : ℕ) → sequence-lts.Need-enum-known-reached (sequence-claims t) (sequence-at t) sequence.Post sequence-inv sequence-μ
-sequence-enum-known-reached t c = search needs
 
 sequence-item-end-requires : (t : ℕ) → sequence-lts.Need-item-end-requires (sequence-claims t) (sequence-at t) sequence.Post sequence-inv sequence-μ
 sequence-item-end-requires t c κs = let x = sequence-item t (c .before .before .before .before .before .before .before) in (x .0, _, x .1)
@@ -430,42 +346,42 @@ pub +read-item+read-sequence-spec : {M : Type 1} → statement M
     item-inv
     item-μ
     (item-shared-slice-read-letter t)
-    (item-kind-of-requires t)
-    (item-enum-known-value t)
-    (item-span-of-requires t)
+    (λ c κs. search needs)
+    (λ c. search needs)
+    (λ c κs. search needs)
     (item-put-leaf-requires t)
-    (item-enum-told t)
-    (item-counted-at-requires t)
-    (item-enum-told-2 t)
-    (item-enum-known-start t)
-    (item-add-read-sequence t)
+    (λ c. search needs)
+    (λ c κs. search needs)
+    (λ c. search needs)
+    (λ c. search needs)
+    (λ c. search needs)
     (item-sub-read-sequence t)
-    (item-sub-read-sequence-2 t)
-    (item-part-read-sequence-start t)
+    (λ c. search needs)
+    (λ c. search needs)
     (item-part-read-sequence-end t)
     (item-read-sequence-requires t)
-    (item-filling-requires t)
-    (item-enum-told-3 t)
-    (item-loop-holds t)
-    (item-add-read-sequence-2 t)
+    (λ c κs. search needs)
+    (λ c. search needs)
+    (λ c. search needs)
+    (λ c. search needs)
     (item-sub-read-sequence-3 t)
     (item-read-sequence-requires-2 t)
-    (item-enum-told-4 t)
-    (item-same-length t)
+    (λ c. search needs)
+    (λ c. search needs)
     (item-returns t)
-    (item-enum-known-reached t)
+    (λ c. search needs)
     (item-loop-less t)
     (item-loop-again t)
-    (item-rest-of-requires t)
+    (λ c κs. search needs)
     (item-put-leaf-requires-2 t)
-    (item-same-length-2 t)
+    (λ c. search needs)
     (item-returns-2 t)
     (item-returns-3 t)
-    (item-same-length-3 t)
+    (λ c. search needs)
     (item-returns-4 t)
-    (item-same-length-4 t)
+    (λ c. search needs)
     (item-returns-5 t)
-    (item-same-length-5 t)
+    (λ c. search needs)
     (item-returns-6 t))
     λ t. sequence-lts.spec
     (sequence-claims t)
@@ -473,15 +389,15 @@ pub +read-item+read-sequence-spec : {M : Type 1} → statement M
     sequence.Post
     sequence-inv
     sequence-μ
-    (sequence-loop-holds t)
-    (sequence-closed-requires t)
-    (sequence-same-length t)
+    (λ c. search needs)
+    (λ c κs. search needs)
+    (λ c. search needs)
     (sequence-returns t)
     (sequence-read-item-requires t)
-    (sequence-enum-told t)
-    (sequence-same-length-2 t)
+    (λ c. search needs)
+    (λ c. search needs)
     (sequence-returns-2 t)
-    (sequence-enum-known-reached t)
+    (λ c. search needs)
     (sequence-item-end-requires t)
     (sequence-loop-less t)
     (sequence-loop-again t)
