@@ -13,28 +13,7 @@ use Rattle.datatype.specs.declared.kind.Kind.{Kind}
 use Rattle.datatype.specs.declared.kind.Kind.the-variants as kind
 use Rattle.datatype.specs.Kinds.{kindOf}
 use Rattle.datatype.specs.Grammar.{Item, Items, value, rest, struct, array, end, more, print, printItem, final, Some, ItemRules, PartRules, TypeString}
-use Rattle.datatype.specs.Parse.{
-  Parsed,
-  malformed,
-  parsed,
-  Head,
-  no-item,
-  one,
-  closed,
-  passed,
-  inside,
-  headed,
-  itemOf,
-  itemIn,
-  joined,
-  follow,
-  partIn,
-  partAt,
-  itemAt,
-  whole,
-  typeOf,
-  isType,
-}
+use Rattle.datatype.specs.Parse.{Parsed, malformed, parsed, Head, no-item, one, closed, passed, inside, headed, itemOf, itemIn, joined, follow, partIn, partAt, itemAt, whole, typeOf, isType}
 use Rattle.datatype.proofs.LawsKinds.{told}
 use Rattle.datatype.proofs.LawsGrammar.{bracket-shut, end-shut, item-open}
 use Rattle.datatype.proofs.LawsParse.{part-step}

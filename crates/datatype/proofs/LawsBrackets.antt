@@ -18,6 +18,7 @@ use Rattle.datatype.specs.declared.kind.Value.{Value}
 use Rattle.datatype.specs.Kinds.{kindOf}
 use Rattle.datatype.specs.Grammar.{Item, Items, value, rest, struct, array, end, more, printItem, print, ItemRules, PartRules}
 use Rattle.datatype.specs.Calls.{ItemFrom, InBrackets, EndsItem, EndsBrackets}
+use Rattle.datatype.proofs.LawsGrammar.{no-bracket}
 use Rattle.datatype.proofs.LawsPlaces.{kindIs, item-first, inner-printed}
 use Rattle.datatype.proofs.kind.Kind.{the-type as kind-type}
 
@@ -62,10 +63,6 @@ past-least [] n = omega arith
 past-least (c ∷ s) zero = omega arith
 past-least (c ∷ s) (suc n) =
     omega (arith, opened-least c (suc n), shut-least c (opened c (suc n)), past-least s (shut c (opened c (suc n))))
-
--- a letter is no bracket
-no-bracket : (letter b : ℕ) (v : Value) → kindOf letter ≡ kind.Value v → kindOf b ≡ kind.Other → letter ≡ b → ⊥
-no-bracket letter b v k o e = let z : _≡_ {A = ℕ} 0 1 = cc in omega arith
 
 -- brackets around octets that close all that they open
 past-inside : (p : List ℕ) (n : ℕ) (s : List ℕ) → past (p ++ 41 ∷ s) (suc (suc n)) ≡ length p + past (41 ∷ s) (suc (suc n))

@@ -15,24 +15,7 @@ use Rattle.datatype.specs.declared.check.Scan.the-variants as scan
 use Rattle.datatype.specs.declared.check.Step.the-variants as step
 use Rattle.datatype.specs.Kinds.{kindOf}
 use Rattle.datatype.specs.Grammar.{Item, Items, more, end, final}
-use Rattle.datatype.specs.Parse.{
-  Parsed,
-  malformed,
-  Head,
-  one,
-  closed,
-  passed,
-  inside,
-  headed,
-  itemOf,
-  itemIn,
-  joined,
-  follow,
-  partAt,
-  itemAt,
-  whole,
-  isType,
-}
+use Rattle.datatype.specs.Parse.{Parsed, malformed, Head, one, closed, passed, inside, headed, itemOf, itemIn, joined, follow, partAt, itemAt, whole, isType}
 use Rattle.datatype.specs.Calls.{Scanned, Stepped}
 use Rattle.datatype.proofs.LawsParse.{part-step}
 

@@ -19,15 +19,14 @@ pub end-shut : closed [] ≡ true
 unfolding closed
 end-shut = refl
 
--- a closing bracket is no letter
-pub not-bracket : (c : ℕ) (v : Value) → kindOf c ≡ kind.Value v → c ≡ 41 → ⊥
-unfolding kindOf
-not-bracket c v k e = let k′ = rw e at k in let z : _≡_ {A = ℕ} 0 1 = cc in omega arith
+-- a letter is no bracket
+pub no-bracket : (letter b : ℕ) (v : Value) → kindOf letter ≡ kind.Value v → kindOf b ≡ kind.Other → letter ≡ b → ⊥
+no-bracket letter b v k o e = let z : _≡_ {A = ℕ} 0 1 = cc in omega arith
 
 -- no part ends where an item stands
 pub item-open : (i : Item) (left : ℕ) (inArray : Bool) (r : List ℕ) → ItemRules i left inArray → closed (printItem i ++ r) ≡ false
-unfolding closed printItem ItemRules
-item-open (value c v) left inArray r k = ne-eqb c 41 (not-bracket c v k)
+unfolding closed printItem ItemRules kindOf
+item-open (value c v) left inArray r k = ne-eqb c 41 (no-bracket c 41 v k refl)
 item-open rest left inArray r k = refl
 item-open (struct t) left inArray r k = refl
 item-open (array t) left inArray r k = refl

@@ -11,25 +11,7 @@ use Rattle.datatype.specs.declared.kind.Kind.{Kind}
 use Rattle.datatype.specs.declared.kind.Kind.the-variants as kind
 use Rattle.datatype.specs.Kinds.{kindOf}
 use Rattle.datatype.specs.Grammar.{Item, Items, struct, array, end, final}
-use Rattle.datatype.specs.Parse.{
-  Parsed,
-  malformed,
-  parsed,
-  Head,
-  no-item,
-  one,
-  closed,
-  passed,
-  inside,
-  headed,
-  itemOf,
-  itemIn,
-  joined,
-  follow,
-  partIn,
-  partAt,
-  itemAt,
-}
+use Rattle.datatype.specs.Parse.{Parsed, malformed, parsed, Head, no-item, one, closed, passed, inside, headed, itemOf, itemIn, joined, follow, partIn, partAt, itemAt}
 
 -- how a part is parsed
 abbrev Parser : Type 0
@@ -147,18 +129,11 @@ part-enough (suc m) (suc n) left a s h l =
     (λ left a r k. part-enough m n left a r (omega arith) (omega arith))
     left a s (omega arith) (fewer-item (partIn n) (most-part n) left a s _ (omega arith)))
 
--- ---- a part, and what follows a part or an item
+-- ---- a part without the bound
 
 most-at : (left : ℕ) (a : Bool) (s : List ℕ) (n : ℕ) → length s ≤ n → Most n (partAt left a s)
 unfolding partAt
 most-at left a s n h = most-part (suc (length s)) left a s n h
-
-pub part-shorter : (left : ℕ) (a : Bool) (s : List ℕ) {t : Items} {r : List ℕ} → partAt left a s ≡ parsed t r → length r ≤ length s
-part-shorter left a s e = rw e at (most-at left a s (length s) (omega arith))
-
-pub item-shorter : (left : ℕ) (a : Bool) (s : List ℕ) {i : Item} {r : List ℕ} → itemAt left a s ≡ one i r → length r < length s
-unfolding itemAt
-item-shorter left a s e = rw e at (fewer-item partAt most-at left a s (length s) (omega arith))
 
 pub part-step : (left : ℕ) (a : Bool) (s : List ℕ) → partAt left a s ≡ cond (closed s) (parsed end s) (follow (partAt left a) (itemAt left a s))
 unfolding partIn partAt itemAt

@@ -27,19 +27,7 @@ use Rattle.datatype.proofs.kind.Kind.{the-type as kind-type}
 use Rattle.datatype.proofs.LawsLeaves.{span-fits, counted-fits}
 use Rattle.datatype.proofs.LawsTook.{Took, element-took, item-took}
 use Rattle.datatype.proofs.LawsReading.{elements-more, elements-done}
-use Rattle.datatype.proofs.LawsPlaces.{
-  front,
-  kindIs,
-  item-first,
-  item-place,
-  part-ended,
-  part-item,
-  struct-inner,
-  array-inner,
-  is-value,
-  is-struct,
-  is-array,
-}
+use Rattle.datatype.proofs.LawsPlaces.{front, kindIs, item-first, item-place, part-ended, part-item, struct-inner, array-inner, is-value, is-struct, is-array}
 use Rattle.datatype.proofs.LawsDid.{Onward, did-upto, did-none, did-then, did-not, did-filling}
 
 -- ---- values, and D

@@ -22,15 +22,15 @@ fn bracket_end(types: &[u8], at: usize) -> usize
     requires { ⌜ ((t : Items) × InBrackets (drop at (now types)) t) ⌝ }
     ensures { λ r. ⌜ EndsBrackets (drop at (now (types .entry))) at r ⌝ }
 {
-    let mut open: usize = 1;
+    let mut unclosed: usize = 1;
     let mut next = at;
-    while 0 < open {
+    while 0 < unclosed {
         let octet = types[next];
         if octet == b'(' {
-            open += 1;
+            unclosed += 1;
         }
         if octet == b')' {
-            open -= 1;
+            unclosed -= 1;
         }
         next += 1;
     }

@@ -11,31 +11,31 @@ use Rattle.datatype.proofs.brackets.bracket_end.Statement.{statement}
 use Rattle.datatype.proofs.brackets.bracket_end.Tie as tie
 
 abbrev Inv-loop : tie.InvT-loop
-Inv-loop types at open₀ next₀ «open» next = (at + past (drop at types) 1 ≤ length types) × (next + past (drop next types) «open» ≡ at + past (drop at types) 1)
+Inv-loop types at unclosed₀ next₀ unclosed next = (at + past (drop at types) 1 ≤ length types) × (next + past (drop next types) unclosed ≡ at + past (drop at types) 1)
 
 abbrev μ-loop : tie.MeasureT-loop
-μ-loop types at open₀ next₀ «open» next = length types - next
+μ-loop types at unclosed₀ next₀ unclosed next = length types - next
 
 loop-holds : tie.Need-loop-holds Inv-loop μ-loop
 loop-holds c = (brackets-within _ _ _ (c .pre .1), refl)
 
 -- in the loop an octet is left
 here : (c : tie.In-loop Inv-loop μ-loop) → c .before .loop .next < length (c .before .before .args .types .now)
-here c = omega (arith, past-least (drop (c .before .loop .next) (c .before .before .args .types .now)) (c .before .loop .«open»))
+here c = omega (arith, past-least (drop (c .before .loop .next) (c .before .before .args .types .now)) (c .before .loop .unclosed))
 
 shared-slice-read-octet : tie.Need-shared-slice-read-octet Inv-loop μ-loop
 shared-slice-read-octet c = here (c .before)
 
-add-open : tie.Need-add-open Inv-loop μ-loop
-add-open c =
+add-unclosed : tie.Need-add-unclosed Inv-loop μ-loop
+add-unclosed c =
     let w = c .before .before in
     let xs = w .before .before .args .types .now in
     let next = w .before .loop .next in
-    let on = rw (c .if1 .taken) at (past-next xs next (w .before .loop .«open») (w .loop-test .taken) (here w)) in
-    omega (arith, past-least (drop (next + 1) xs) (w .before .loop .«open» + 1))
+    let on = rw (c .if1 .taken) at (past-next xs next (w .before .loop .unclosed) (w .loop-test .taken) (here w)) in
+    omega (arith, past-least (drop (next + 1) xs) (w .before .loop .unclosed + 1))
 
-sub-open : tie.Need-sub-open Inv-loop μ-loop
-sub-open c = ⊎-elim (λ w. omega arith) (λ w. omega arith) (c .before .before .if1 .came)
+sub-unclosed : tie.Need-sub-unclosed Inv-loop μ-loop
+sub-unclosed c = ⊎-elim (λ w. omega arith) (λ w. omega arith) (c .before .before .if1 .came)
 
 add-next : tie.Need-add-next Inv-loop μ-loop
 add-next c = omega (arith, here (c .before .before .before))
@@ -49,16 +49,16 @@ loop-again c =
     let xs = w .before .before .args .types .now in
     let next = w .before .loop .next in
     let octet = getD xs next 0 in
-    let first : c .before .if1 .«open» ≡ opened octet (w .before .loop .«open») =
+    let first : c .before .if1 .unclosed ≡ opened octet (w .before .loop .unclosed) =
     ⊎-elim (λ v. rw (eq-eqb octet 40 (v .0 .taken)) (v .1)) (λ v. rw (ne-eqb octet 40 (v .0 .left)) (v .1)) (c .before .if1 .came) in
-    let second : c .if2 .«open» ≡ shut octet (c .before .if1 .«open») =
+    let second : c .if2 .unclosed ≡ shut octet (c .before .if1 .unclosed) =
     ⊎-elim (λ v. rw (eq-eqb octet 41 (v .0 .taken)) (v .2)) (λ v. rw (ne-eqb octet 41 (v .0 .left)) (v .1)) (c .if2 .came) in
-    omega (arith, rw (← first, ← second) at (past-next xs next (w .before .loop .«open») (w .loop-test .taken) (here w)))
+    omega (arith, rw (← first, ← second) at (past-next xs next (w .before .loop .unclosed) (w .loop-test .taken) (here w)))
 
 returns : tie.Need-returns Inv-loop μ-loop
 returns c = λ t b.
     let w = c .before in
-    omega (arith, past-brackets _ t b, past-none (drop (w .loop .next) (w .before .args .types .now)) (w .loop .«open») (omega arith))
+    omega (arith, past-brackets _ t b, past-none (drop (w .loop .next) (w .before .args .types .now)) (w .loop .unclosed) (omega arith))
 
 pub bracket-end-spec : {M : Type 1} → statement M
 bracket-end-spec =
@@ -68,8 +68,8 @@ bracket-end-spec =
     μ-loop
     loop-holds
     shared-slice-read-octet
-    add-open
-    sub-open
+    add-unclosed
+    sub-unclosed
     add-next
     loop-less
     loop-again

@@ -12,23 +12,7 @@ use Rattle.datatype.specs.declared.kind.Kind.{Kind}
 use Rattle.datatype.specs.declared.check.Scan.the-variants as scan
 use Rattle.datatype.specs.Grammar.{value, rest, struct, array}
 use Rattle.datatype.specs.Parse.{closed, passed, inside, headed, itemOf, partAt, itemAt}
-use Rattle.datatype.proofs.LawsCheck.{
-  Onward,
-  more-left,
-  part-closed,
-  part-bad,
-  part-last,
-  part-not-last,
-  part-next,
-  item-at,
-  inside-none,
-  inside-unopened,
-  inside-nothing,
-  inside-some,
-  brackets-cut,
-  brackets-shut,
-  brackets-item,
-}
+use Rattle.datatype.proofs.LawsCheck.{Onward, more-left, part-closed, part-bad, part-last, part-not-last, part-next, item-at, inside-none, inside-unopened, inside-nothing, inside-some, brackets-cut, brackets-shut, brackets-item}
 use Rattle.datatype.proofs.check.check_inside.Reads as check-inside
 use Rattle.datatype.proofs.check.check_inside.Kinds as check-inside-kinds
 use Rattle.datatype.proofs.check.+check_inside+check_item+check_sequence.Lts-check_inside as check-inside-lts
@@ -223,10 +207,6 @@ check-sequence-loop-holds : (t : ℕ)
     → check-sequence-lts.Need-loop-holds (check-sequence-claims t) (check-sequence-at t) check-sequence.Post Inv-loop μ-loop
 check-sequence-loop-holds t c = (omega arith, omega arith, λ r h. h)
 
-check-sequence-closed-requires : (t : ℕ)
-    → check-sequence-lts.Need-closed-requires (check-sequence-claims t) (check-sequence-at t) check-sequence.Post Inv-loop μ-loop
-check-sequence-closed-requires t c κs = search needs
-
 check-sequence-returns : (t : ℕ)
     → check-sequence-lts.Need-returns (check-sequence-claims t) (check-sequence-at t) check-sequence.Post Inv-loop μ-loop
 check-sequence-returns t c =
@@ -245,10 +225,6 @@ check-sequence-check-item-requires t c κs =
     let s = c .before .before in
     let h = more-left (s .before .before .args .types .now) (s .loop .next) (check-sequence-goes-on t c) in omega arith
 
-check-sequence-enum-told : (t : ℕ)
-    → check-sequence-lts.Need-enum-told (check-sequence-claims t) (check-sequence-at t) check-sequence.Post Inv-loop μ-loop
-check-sequence-enum-told t c = search needs
-
 check-sequence-returns-2 : (t : ℕ)
     → check-sequence-lts.Need-returns-2 (check-sequence-claims t) (check-sequence-at t) check-sequence.Post Inv-loop μ-loop
 check-sequence-returns-2 t c =
@@ -256,10 +232,6 @@ check-sequence-returns-2 t c =
     s .loop .inv .2 scan.Bad
     (part-bad (s .before .before .args .types .now) _ _ (s .loop .next) (check-sequence-goes-on t (c .before .before .before))
     (rw (c .enum-told .given .1) at (c .before .before .check-item .ensures)))
-
-check-sequence-enum-known-end : (t : ℕ)
-    → check-sequence-lts.Need-enum-known-end (check-sequence-claims t) (check-sequence-at t) check-sequence.Post Inv-loop μ-loop
-check-sequence-enum-known-end t c = search needs
 
 check-sequence-closed-requires-2 : (t : ℕ)
     → check-sequence-lts.Need-closed-requires-2 (check-sequence-claims t) (check-sequence-at t) check-sequence.Post Inv-loop μ-loop
@@ -280,10 +252,6 @@ check-sequence-returns-4 t c =
     (part-not-last _ _ _ _ (check-sequence-goes-on t (c .before .before .before .before .before .before)) _
     (rw (c .before .before .before .end .given .1) at (c .before .before .before .before .before .check-item .ensures))
     (sym (c .if2 .left) ∙ c .before .closed2 .ensures))
-
-check-sequence-enum-known-end-2 : (t : ℕ)
-    → check-sequence-lts.Need-enum-known-end-2 (check-sequence-claims t) (check-sequence-at t) check-sequence.Post Inv-loop μ-loop
-check-sequence-enum-known-end-2 t c = search needs
 
 check-sequence-loop-less : (t : ℕ)
     → check-sequence-lts.Need-loop-less (check-sequence-claims t) (check-sequence-at t) check-sequence.Post Inv-loop μ-loop
@@ -346,15 +314,15 @@ pub +check-inside+check-item+check-sequence-spec : {M : Type 1} → statement M
     Inv-loop
     μ-loop
     (check-sequence-loop-holds t)
-    (check-sequence-closed-requires t)
+    (λ c κs. search needs)
     (check-sequence-returns t)
     (check-sequence-check-item-requires t)
-    (check-sequence-enum-told t)
+    (λ c. search needs)
     (check-sequence-returns-2 t)
-    (check-sequence-enum-known-end t)
+    (λ c. search needs)
     (check-sequence-closed-requires-2 t)
     (check-sequence-returns-3 t)
     (check-sequence-returns-4 t)
-    (check-sequence-enum-known-end-2 t)
+    (λ c. search needs)
     (check-sequence-loop-less t)
     (check-sequence-loop-again t)

@@ -14,25 +14,7 @@ use Rattle.datatype.specs.Grammar.{Item, Items, array}
 use Rattle.datatype.specs.Parse.{closed}
 use Rattle.datatype.specs.Reading.{itemReads, partReads}
 use Rattle.datatype.specs.Calls.{PartFrom, ItemFrom, Room}
-use Rattle.datatype.proofs.LawsReader.{
-  reads-value,
-  span-small,
-  reads-rest,
-  struct-at,
-  struct-room,
-  struct-misfit,
-  struct-reads,
-  reads-array,
-  array-at,
-  element-misfit,
-  element-room,
-  element-on,
-  elements-end,
-  sequence-ends,
-  turn-misfit,
-  turn-room,
-  turn-on,
-}
+use Rattle.datatype.proofs.LawsReader.{reads-value, span-small, reads-rest, struct-at, struct-room, struct-misfit, struct-reads, reads-array, array-at, element-misfit, element-room, element-on, elements-end, sequence-ends, turn-misfit, turn-room, turn-on}
 use Rattle.datatype.proofs.LawsDid.{Onward}
 use Rattle.datatype.proofs.LawsPlaces.{part-item, item-first, array-inner}
 use Rattle.datatype.proofs.LawsLeaves.{counted-fits}
