@@ -64,7 +64,7 @@ item-first types at depth rest w = let h = front types at 68 (w .behind) (w .pri
 item-first types at depth (struct t) w = let h = front types at 116 _ (w .printed) in (ap kindOf (h .0), h .1)
 item-first types at depth (array t) w = let h = front types at 65 _ (w .printed) in (ap kindOf (h .0), h .1)
 
-pub same-letter : (types : List ℕ) (at depth : ℕ) (c : ℕ) (v : Value) → ItemFrom (drop at types) depth (value c v) → getD types at 0 ≡ c
+same-letter : (types : List ℕ) (at depth : ℕ) (c : ℕ) (v : Value) → ItemFrom (drop at types) depth (value c v) → getD types at 0 ≡ c
 unfolding printItem
 same-letter types at depth c v w = front types at c (w .behind) (w .printed) .0
 

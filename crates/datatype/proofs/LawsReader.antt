@@ -30,7 +30,7 @@ use Rattle.datatype.proofs.LawsReading.{elements-more, elements-done}
 use Rattle.datatype.proofs.LawsPlaces.{front, kindIs, item-first, item-place, part-ended, part-item, struct-inner, array-inner, is-value, is-struct, is-array}
 use Rattle.datatype.proofs.LawsDid.{Onward, did-upto, did-none, did-then, did-not, did-filling}
 
--- ---- values, and D
+-- ---- an item by the kind of its letter
 
 module _ (types : List ℕ) (at depth : ℕ) (part : List ℕ) (from : ℕ) (l l′ : List ℕ) (k : ℕ) (r : Read) where
   pub reads-value : (v : Value) → kindOf (getD types at 0) ≡ kind.Value v → Did (leafReads (getD types at 0) (spanOf v part from)) l l′ k r
@@ -38,7 +38,7 @@ module _ (types : List ℕ) (at depth : ℕ) (part : List ℕ) (from : ℕ) (l l
   unfolding itemReads
   reads-value v e d i w = rw (is-value types at depth i v w e) d
 
-  pub reads-struct : kindOf (getD types at 0) ≡ kind.Struct
+  reads-struct : kindOf (getD types at 0) ≡ kind.Struct
       → ((t : Items) → PartFrom (drop (at + 2) types) (depth - 1) t
       → Did (contents (countedAt part from) (λ start stop. partReads t (take stop part) start)) l l′ k r)
       → ReadsItem (drop at types) depth part from l l′ k r
@@ -108,17 +108,17 @@ module _ (types : List ℕ) (at depth : ℕ) (part : List ℕ) (from : ℕ) (l l
 -- ---- A and its elements
 
 module _ (types : List ℕ) (at depth : ℕ) (t : Items) (w : ItemFrom (drop at types) depth (array t)) (part : List ℕ) (from : ℕ) where
-  pub array-took : (p : ℕ) (ls : List Leaf) → from ≤ length part → partReads t part from ≡ upto p ls → Took part from p ls 1 0
+  array-took : (p : ℕ) (ls : List Leaf) → from ≤ length part → partReads t part from ≡ upto p ls → Took part from p ls 1 0
   array-took p ls = let inner = array-inner types at depth t w in element-took t (depth - 1) part from p ls (inner .3) (inner .4)
 
-pub array-more : (types : List ℕ) (at depth : ℕ) (t : Items) → ItemFrom (drop at types) depth (array t) → (part : List ℕ) (from : ℕ) → from < length part
+array-more : (types : List ℕ) (at depth : ℕ) (t : Items) → ItemFrom (drop at types) depth (array t) → (part : List ℕ) (from : ℕ) → from < length part
     → itemReads (array t) part from ≡ andThen (partReads t part from) (λ p. itemReads (array t) part p)
 unfolding itemReads
 array-more types at depth t w part from h =
     elements-more (λ p. partReads t part p) (length part)
     (λ q r ms room e. let g = array-took types at depth t w part q r ms room e in (omega (arith, g .onward), g .within)) from h
 
-pub array-done : (t : Items) (part : List ℕ) (from : ℕ) → length part ≤ from → itemReads (array t) part from ≡ upto from []
+array-done : (t : Items) (part : List ℕ) (from : ℕ) → length part ≤ from → itemReads (array t) part from ≡ upto from []
 unfolding itemReads
 array-done t part from h = elements-done (λ p. partReads t part p) (length part - from) from (length part) h
 

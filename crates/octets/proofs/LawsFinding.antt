@@ -1,14 +1,11 @@
 -- Laws of looking for an octet. Assumes nothing.
-use mathlib.Core.Path.{_≡_, refl, ap, _∙_}
-use mathlib.Core.List.{List, [], _∷_}
+use mathlib.Core.Path.{_≡_}
+use mathlib.Core.List.{List}
 use Prim.Native.Nat.{ℕ, suc, _+_, _≤_, _<_}
-use native.Mathlib.Omega.{arith}
 use borrow.Author.Tests.{eq-eqb, ne-eqb}
-use lib.Dec.{eqb}
-use lib.ListN.{length, getD, drop, length-drop, drop-of-length-le}
+use lib.ListN.{length, getD, drop, drop-of-length-le}
 use Rattle.octets.specs.Finding.{before}
 use Rattle.octets.proofs.LawsLists.{drop-next}
-use Rattle.octets.proofs.LawsTests.{by-test}
 
 pub before-here : (x : ℕ) (xs : List ℕ) (at : ℕ) → at < length xs → getD xs at 0 ≡ x → before x (drop at xs) ≡ 0
 unfolding before
@@ -21,8 +18,3 @@ before-on x xs at h e = rw (drop-next xs at h, ne-eqb _ _ e)
 pub before-none : (x : ℕ) (xs : List ℕ) (at : ℕ) → length xs ≤ at → before x (drop at xs) ≡ 0
 unfolding before
 before-none x xs at h = rw (drop-of-length-le xs {i = at} h)
-
-pub before-most : (x : ℕ) (xs : List ℕ) → before x xs ≤ length xs
-unfolding before
-before-most x [] = omega arith
-before-most x (y ∷ ys) = by-test (eqb y x) (λ e. rw e (omega arith)) (λ e. let rest = before-most x ys in rw e (omega arith))
