@@ -19,7 +19,7 @@ use Rattle.datatype.specs.declared.leaf.Span.the-variants.{At, Misfit}
 unfoldable pub fixedAt : ℕ → List ℕ → ℕ → Span
 fixedAt width part from = cond (ltb (length part - from) width) Misfit (At from width (from + width))
 
--- "A b that isn't 00 or 01 ... [is] 16"
+-- "A b that isn't 00 or 01 ... [is] 16"; behind the part's end `getD` gives 0, and there is no octet
 unfoldable pub boolAt : List ℕ → ℕ → Span
 boolAt part from = cond (leb (getD part from 0) 1) (fixedAt 1 part from) Misfit
 

@@ -35,6 +35,7 @@ inside part zero inArray s = malformed
 inside part (suc left) inArray [] = malformed
 inside part (suc left) inArray (c ∷ s) = cond (eqb c 40) (cond (closed s) malformed (passed (part left inArray s))) malformed
 
+-- a part in brackets as the item of its t or A
 unfoldable pub headed : (Items → Item) → Parsed → Head
 headed item malformed = no-item
 headed item (parsed t s) = one (item t) s
@@ -47,10 +48,12 @@ itemOf part kind.Struct letter left inArray s = headed struct (inside part left 
 itemOf part kind.Array letter left inArray s = cond inArray no-item (headed array (inside part left true s))
 itemOf part kind.Other letter left inArray s = no-item
 
+-- the item at the front of a string
 unfoldable pub itemIn : (ℕ → Bool → List ℕ → Parsed) → ℕ → Bool → List ℕ → Head
 itemIn part left inArray [] = no-item
 itemIn part left inArray (c ∷ s) = itemOf part (kindOf c) c left inArray s
 
+-- an item in front of those after it
 unfoldable pub joined : Item → Parsed → Parsed
 joined i malformed = malformed
 joined i (parsed t s) = parsed (more i t) s

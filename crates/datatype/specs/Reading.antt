@@ -47,6 +47,7 @@ unfoldable pub filling : ℕ → Reading → Reading
 filling stop misfit = misfit
 filling stop (upto p ls) = cond (eqb p stop) (upto p ls) misfit
 
+-- a value that stands in the payload is a leaf
 unfoldable pub leafReads : ℕ → Span → Reading
 leafReads letter Misfit = misfit
 leafReads letter (At start size next) = upto next (leafOf letter start size ∷ [])
@@ -61,6 +62,7 @@ unfoldable pub elements : ℕ → (ℕ → Reading) → ℕ → ℕ → Reading
 elements zero go from stop = upto from []
 elements (suc n) go from stop = cond (ltb from stop) (andThen (go from) (λ p. elements n go p stop)) (upto from [])
 
+-- what an item, and the items of a part, read from a place on: "D and A run to the end of the enclosing part"
 unfoldable mutual
   pub itemReads : Item → List ℕ → ℕ → Reading
   itemReads (value letter v) part from = leafReads letter (spanOf v part from)

@@ -1,4 +1,5 @@
 -- Each arm is a clause of `fillingTo`, and the test is its test. Assumes nothing.
+use native.Mathlib.Omega.{arith}
 use borrow.Author.Needs.{needs}
 use borrow.Author.Tests.{eq-eqb, ne-eqb}
 use Rattle.datatype.proofs.read.filling.Statement.{statement}
@@ -11,7 +12,9 @@ enum-known-read : tie.Need-enum-known-read
 enum-known-read c = search needs
 
 returns : tie.Need-returns
-returns c = rw (c .before .before .read .given .1, eq-eqb _ _ (c .if1 .taken))
+returns c =
+    let read = c .before .before .read .given in
+    rw (read .1, eq-eqb (read .0 .0) (c .before .before .before .before .args .stop) (omega arith))
 
 returns-2 : tie.Need-returns-2
 returns-2 c = search needs
