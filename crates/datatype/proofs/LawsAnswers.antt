@@ -15,7 +15,7 @@ use Rattle.datatype.specs.declared.read.Answer.the-variants as answer
 use Rattle.datatype.specs.Grammar.{Items}
 use Rattle.datatype.specs.Parse.{Parsed, malformed, parsed, typeOf, isType}
 use Rattle.datatype.specs.Reading.{Leaf, numbers, upto, filling, partReads}
-use Rattle.datatype.specs.Answers.{refused, listed, result, told, tells, filled}
+use Rattle.datatype.specs.Answers.{refused, listed, result, answerTo, told, tells, filled}
 use Rattle.datatype.specs.Calls.{PartFrom, Room, Did, fillingTo, ReadsPart}
 use Rattle.datatype.proofs.LawsGrammar.{end-shut}
 use Rattle.datatype.proofs.Grammatical.{accepted, complete}
@@ -25,8 +25,7 @@ use Rattle.datatype.proofs.LawsDid.{did-misfit, did-upto, did-filling, 
 
 -- the two equations of the public call
 abbrev pub Answered : List ℕ → List ℕ → List ℕ → List ℕ → Answer → Type 0
-Answered types payload list list′ a =
-    (told a ≡ tells (result (typeOf types) payload (length list))) × (list′ ≡ filled list (result (typeOf types) payload (length list)))
+Answered types payload list list′ a = (told a ≡ tells (answerTo types payload list)) × (list′ ≡ filled list (answerTo types payload list))
 
 pub answers-malformed : (types payload list : List ℕ) → isType (typeOf types) ≡ false → Answered types payload list list answer.Malformed
 unfolding result tells filled

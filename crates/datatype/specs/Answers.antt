@@ -6,7 +6,7 @@ use lib.Dec.{ltb}
 use lib.ListN.{length, drop}
 use Rattle.datatype.specs.declared.read.Answer.{Answer}
 use Rattle.datatype.specs.declared.read.Answer.the-variants.{Leaves, Malformed, Misfit, ShortList}
-use Rattle.datatype.specs.Parse.{Parsed, malformed, parsed}
+use Rattle.datatype.specs.Parse.{Parsed, malformed, parsed, typeOf}
 use Rattle.datatype.specs.Reading.{Leaf, numbers, Reading, misfit, upto, filling, partReads}
 
 -- "a payload at most 1,300 octets"
@@ -28,6 +28,10 @@ unfoldable pub result : Parsed → List ℕ → ℕ → Result
 result malformed payload room = refused 15
 result (parsed t s) payload room =
     cond (ltb mostPayload (length payload)) (refused 16) (listed room (filling (length payload) (partReads t payload 0)))
+
+-- of a type string, a payload and a list
+abbrev pub answerTo : List ℕ → List ℕ → List ℕ → Result
+answerTo types payload list = result (typeOf types) payload (length list)
 
 -- 01's number of an answer and its count of leaves: "answer 0 on success, this one with the number of leaves"; refusals "return zero
 -- for every count"

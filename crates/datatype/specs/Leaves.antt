@@ -1,7 +1,7 @@
 -- Where values stand in a payload (01, Type strings). A part of the payload is the octets up to the part's end; places count from the
 -- payload's first octet.
 use mathlib.Core.Bool.{cond}
-use mathlib.Core.List.{List, [], _∷_}
+use mathlib.Core.List.{List}
 use Prim.Native.Nat.{ℕ, _+_, _-_}
 use lib.Dec.{ltb, leb}
 use lib.ListN.{length, getD, drop}

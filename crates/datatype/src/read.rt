@@ -12,10 +12,9 @@ use crate::leaf::span_of;
 use crate::list::Read;
 use crate::list::put_leaf;
 ghost use mathlib.Core.Path.{_≡_};
-ghost use lib.ListN.{length, drop};
+ghost use lib.ListN.{drop};
 ghost use Rattle.datatype.specs.Grammar.{Item, Items};
-ghost use Rattle.datatype.specs.Parse.{typeOf};
-ghost use Rattle.datatype.specs.Answers.{told, tells, filled, result};
+ghost use Rattle.datatype.specs.Answers.{told, tells, filled, answerTo};
 ghost use Rattle.datatype.specs.Calls.{PartFrom, ItemFrom, Room, ReadsPart, ReadsItem, fillingTo};
 
 const MOST_PAYLOAD: usize = 1300;
@@ -34,8 +33,8 @@ pub enum Answer {
 
 // Reads a payload by a type string. The leaves go to `list`, three numbers each: letter, start, length.
 pub fn read_typed(types: &[u8], payload: &[u8], list: &mut [u32]) -> Answer
-    ensures { λ r. ⌜ told r ≡ tells (result (typeOf (now (types .entry))) (now (payload .entry)) (length (now (list .entry)))) ⌝ }
-    ensures { λ _. ⌜ now (list .exit) ≡ filled (now (list .entry)) (result (typeOf (now (types .entry))) (now (payload .entry)) (length (now (list .entry)))) ⌝ }
+    ensures { λ r. ⌜ told r ≡ tells (answerTo (now (types .entry)) (now (payload .entry)) (now (list .entry))) ⌝ }
+    ensures { λ _. ⌜ now (list .exit) ≡ filled (now (list .entry)) (answerTo (now (types .entry)) (now (payload .entry)) (now (list .entry))) ⌝ }
 {
     if is_type(types) {
         let end = payload.len();
