@@ -15,9 +15,6 @@ use Rattle.datatype.proofs.brackets.item_end.Tie as tie
 shared-slice-read-kind-of : tie.Need-shared-slice-read-kind-of
 shared-slice-read-kind-of c = let w = c .before .before in item-first (w .args .types .now) (w .args .at) (w .pre .1) (w .pre .0) (w .pre .2) .1
 
-kind-of-requires : tie.Need-kind-of-requires
-kind-of-requires c κs = search needs
-
 -- the brackets behind a letter that has them
 inside : (c : tie.After-kind-of) → bracketed (c .kind-of .result) ≡ true
     → let w = c .before .before .before in (t : Items) × InBrackets (drop (w .args .at + 2) (w .args .types .now)) t
@@ -50,7 +47,7 @@ item-end-spec =
     tie.close
     (tie.spec
     shared-slice-read-kind-of
-    kind-of-requires
+    (λ c κs. search needs)
     add-bracket-end
     bracket-end-requires
     add-result

@@ -12,15 +12,6 @@ returns : tie.Need-returns
 unfolding typeOf
 returns c = rw (lt-ltb 64 (length (c .before .before .args .types .now)) (omega arith))
 
-check-sequence-requires : tie.Need-check-sequence-requires
-check-sequence-requires c κs = search needs
-
-enum-told : tie.Need-enum-told
-enum-told c = search needs
-
-enum-known-end : tie.Need-enum-known-end
-enum-known-end c = search needs
-
 returns-2 : tie.Need-returns-2
 unfolding typeOf whole
 returns-2 c = rw (le-ltb 64 (length (c .before .before .before .before .before .args .types .now)) (omega arith), rw (c .enum-told .given .1) at (c .before .before .check-sequence .ensures))
@@ -34,4 +25,4 @@ returns-3 c =
 pub is-type-spec : {M : Type 1} → statement M
 is-type-spec =
     tie.close
-    (tie.spec returns check-sequence-requires enum-told enum-known-end returns-2 returns-3)
+    (tie.spec returns (λ c κs. search needs) (λ c. search needs) (λ c. search needs) returns-2 returns-3)

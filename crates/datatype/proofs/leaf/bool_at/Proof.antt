@@ -9,15 +9,9 @@ use Rattle.datatype.specs.Leaves.{boolAt}
 use Rattle.datatype.proofs.leaf.bool_at.Statement.{statement}
 use Rattle.datatype.proofs.leaf.bool_at.Tie as tie
 
-shared-slice-read-if2 : tie.Need-shared-slice-read-if2
-shared-slice-read-if2 c = search needs
-
 returns : tie.Need-returns
 unfolding boolAt
 returns c = let a = c .before .before .before .before .args in rw (lt-leb (getD (a .part .now) (a .from) 0) 1 (omega arith))
-
-fixed-at-requires : tie.Need-fixed-at-requires
-fixed-at-requires c κs = search needs
 
 returns-2 : tie.Need-returns-2
 unfolding boolAt
@@ -28,4 +22,4 @@ returns-2 c =
     rw (le-leb _ _ small) (c .fixed-at .ensures)
 
 pub bool-at-spec : {M : Type 1} → statement M
-bool-at-spec = tie.close (tie.spec shared-slice-read-if2 returns fixed-at-requires returns-2)
+bool-at-spec = tie.close (tie.spec (λ c. search needs) returns (λ c κs. search needs) returns-2)

@@ -7,15 +7,6 @@ use Rattle.datatype.specs.Leaves.{numberSpan}
 use Rattle.datatype.proofs.leaf.packed_at.Statement.{statement}
 use Rattle.datatype.proofs.leaf.packed_at.Tie as tie
 
-read-packed-requires : tie.Need-read-packed-requires
-read-packed-requires c κs = search needs
-
-enum-told : tie.Need-enum-told
-enum-told c = search needs
-
-enum-known-next : tie.Need-enum-known-next
-enum-known-next c = search needs
-
 sub-t6 : tie.Need-sub-t6
 sub-t6 c = omega (arith, place-after _ _ _ _ (sym (c .before .before .before .read-packed .ensures) ∙ c .before .next .given .1))
 
@@ -29,4 +20,4 @@ returns-2 c = rw (← (c .before .before .before .read-packed .ensures), c .befo
 
 pub packed-at-spec : {M : Type 1} → statement M
 packed-at-spec =
-    tie.close (tie.spec read-packed-requires enum-told enum-known-next sub-t6 returns returns-2)
+    tie.close (tie.spec (λ c κs. search needs) (λ c. search needs) (λ c. search needs) sub-t6 returns returns-2)

@@ -4,36 +4,6 @@ use Rattle.datatype.specs.Leaves.{spanOf}
 use Rattle.datatype.proofs.leaf.span_of.Statement.{statement}
 use Rattle.datatype.proofs.leaf.span_of.Tie as tie
 
-enum-told : tie.Need-enum-told
-enum-told c = search needs
-
-bool-at-requires : tie.Need-bool-at-requires
-bool-at-requires c κs = search needs
-
-enum-known-value : tie.Need-enum-known-value
-enum-known-value c = search needs
-
-fixed-at-requires : tie.Need-fixed-at-requires
-fixed-at-requires c κs = search needs
-
-enum-told-2 : tie.Need-enum-told-2
-enum-told-2 c = search needs
-
-packed-at-requires : tie.Need-packed-at-requires
-packed-at-requires c κs = search needs
-
-enum-told-3 : tie.Need-enum-told-3
-enum-told-3 c = search needs
-
-text-at-requires : tie.Need-text-at-requires
-text-at-requires c κs = search needs
-
-enum-told-4 : tie.Need-enum-told-4
-enum-told-4 c = search needs
-
-counted-at-requires : tie.Need-counted-at-requires
-counted-at-requires c κs = search needs
-
 returns : tie.Need-returns
 unfolding spanOf
 returns c = rw (c .before .enum-told .given .1) (c .bool-at .ensures)
@@ -58,16 +28,16 @@ pub span-of-spec : {M : Type 1} → statement M
 span-of-spec =
     tie.close
     (tie.spec
-    enum-told
-    bool-at-requires
-    enum-known-value
-    fixed-at-requires
-    enum-told-2
-    packed-at-requires
-    enum-told-3
-    text-at-requires
-    enum-told-4
-    counted-at-requires
+    (λ c. search needs)
+    (λ c κs. search needs)
+    (λ c. search needs)
+    (λ c κs. search needs)
+    (λ c. search needs)
+    (λ c κs. search needs)
+    (λ c. search needs)
+    (λ c κs. search needs)
+    (λ c. search needs)
+    (λ c κs. search needs)
     returns
     returns-2
     returns-3

@@ -9,18 +9,9 @@ use Rattle.datatype.specs.Leaves.{textAt}
 use Rattle.datatype.proofs.leaf.text_at.Statement.{statement}
 use Rattle.datatype.proofs.leaf.text_at.Tie as tie
 
-find-octet-requires : tie.Need-find-octet-requires
-find-octet-requires c κs = search needs
-
 returns : tie.Need-returns
 unfolding textAt
 returns c = rw (← (c .before .find-octet .ensures), le-ltb _ _ (c .if1 .taken))
-
-add-next : tie.Need-add-next
-add-next c = search needs
-
-sub-t5 : tie.Need-sub-t5
-sub-t5 c = search needs
 
 returns-2 : tie.Need-returns-2
 unfolding textAt
@@ -29,4 +20,4 @@ returns-2 c =
     (ap (λ size. At (c .before .before .before .args .from) size (c .before .find-octet .result + 1)) (omega arith))
 
 pub text-at-spec : {M : Type 1} → statement M
-text-at-spec = tie.close (tie.spec find-octet-requires returns add-next sub-t5 returns-2)
+text-at-spec = tie.close (tie.spec (λ c κs. search needs) returns (λ c. search needs) (λ c. search needs) returns-2)

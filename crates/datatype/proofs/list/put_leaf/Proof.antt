@@ -7,32 +7,11 @@ use Rattle.datatype.specs.Reading.{leafReads, numbers}
 use Rattle.datatype.proofs.list.put_leaf.Statement.{statement}
 use Rattle.datatype.proofs.list.put_leaf.Tie as tie
 
-enum-told : tie.Need-enum-told
-enum-told c = search needs
-
-enum-known-span : tie.Need-enum-known-span
-enum-known-span c = search needs
-
-mul-at : tie.Need-mul-at
-mul-at c = search needs
-
-put-number-requires : tie.Need-put-number-requires
-put-number-requires c κs = search needs
-
-add-put-number : tie.Need-add-put-number
-add-put-number c = search needs
-
 cast-put-number : tie.Need-cast-put-number
 cast-put-number c =
     let known = c .before .before .before .before .before .before in
     let small = rw (known .span .given .1) at (known .before .before .before .pre .1) in
     omega arith
-
-put-number-requires-2 : tie.Need-put-number-requires-2
-put-number-requires-2 c κs = search needs
-
-add-put-number-2 : tie.Need-add-put-number-2
-add-put-number-2 c = search needs
 
 cast-put-number-2 : tie.Need-cast-put-number-2
 cast-put-number-2 c =
@@ -40,18 +19,9 @@ cast-put-number-2 c =
     let small = rw (known .span .given .1) at (known .before .before .before .pre .1) in
     omega arith
 
-put-number-requires-3 : tie.Need-put-number-requires-3
-put-number-requires-3 c κs = search needs
-
-add-t16 : tie.Need-add-t16
-add-t16 c = search needs
-
 returns : tie.Need-returns
 unfolding leafReads
 returns c = rw (c .enum-told .given .1)
-
-same-length : tie.Need-same-length
-same-length c = search needs
 
 returns-2 : tie.Need-returns-2
 unfolding leafReads numbers
@@ -66,17 +36,17 @@ pub put-leaf-spec : {M : Type 1} → statement M
 put-leaf-spec =
     tie.close
     (tie.spec
-    enum-told
-    enum-known-span
-    mul-at
-    put-number-requires
-    add-put-number
+    (λ c. search needs)
+    (λ c. search needs)
+    (λ c. search needs)
+    (λ c κs. search needs)
+    (λ c. search needs)
     cast-put-number
-    put-number-requires-2
-    add-put-number-2
+    (λ c κs. search needs)
+    (λ c. search needs)
     cast-put-number-2
-    put-number-requires-3
-    add-t16
+    (λ c κs. search needs)
+    (λ c. search needs)
     returns
-    same-length
+    (λ c. search needs)
     returns-2)

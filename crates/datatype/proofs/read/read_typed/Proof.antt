@@ -7,35 +7,14 @@ use Rattle.datatype.proofs.LawsAnswers.{answers-malformed, answers-long
 use Rattle.datatype.proofs.read.read_typed.Statement.{statement}
 use Rattle.datatype.proofs.read.read_typed.Tie as tie
 
-is-type-requires : tie.Need-is-type-requires
-is-type-requires c κs = search needs
-
 returns : tie.Need-returns
 returns c = answers-long _ _ _ (sym (c .before .before .is-type .ensures) ∙ c .before .if1 .taken) (omega arith)
-
-sub-read-sequence : tie.Need-sub-read-sequence
-sub-read-sequence c = search needs
-
-part-read-sequence-start : tie.Need-part-read-sequence-start
-part-read-sequence-start c = search needs
-
-part-read-sequence-end : tie.Need-part-read-sequence-end
-part-read-sequence-end c = search needs
 
 read-sequence-requires : tie.Need-read-sequence-requires
 read-sequence-requires c κs =
     let tested = c .before in
     let typed = sym (tested .before .before .is-type .ensures) ∙ tested .before .if1 .taken in
     readable _ _ [] typed (omega arith)
-
-filling-requires : tie.Need-filling-requires
-filling-requires c κs = search needs
-
-enum-told : tie.Need-enum-told
-enum-told c = search needs
-
-enum-known-leaves : tie.Need-enum-known-leaves
-enum-known-leaves c = search needs
 
 mul-if3 : tie.Need-mul-if3
 mul-if3 c =
@@ -46,9 +25,6 @@ mul-if3 c =
     let lent = first .read-sequence .kept .1 .1 .1 .1 .1 .0 in
     let reads = first .read-sequence .ensures in
     omega (arith, few-leaves _ _ [] typed (omega arith) _ _ lent _ _ reads (filled .filling .ensures) _ _ (c .before .leaves .given .1))
-
-same-length : tie.Need-same-length
-same-length c = search needs
 
 returns-2 : tie.Need-returns-2
 returns-2 c =
@@ -66,9 +42,6 @@ read-sequence-requires-2 c κs =
     let typed = sym (tested .before .before .is-type .ensures) ∙ tested .before .if1 .taken in
     readable _ _ [] typed (omega arith)
 
-same-length-2 : tie.Need-same-length-2
-same-length-2 c = search needs
-
 returns-3 : tie.Need-returns-3
 returns-3 c =
     let filled = c .before .before in
@@ -78,9 +51,6 @@ returns-3 c =
     let lent = first .read-sequence .kept .1 .1 .1 .1 .1 .0 in
     let reads = first .read-sequence .ensures in
     answers-misfit _ _ _ typed (omega arith) _ _ lent _ _ reads (filled .filling .ensures) (c .enum-told .given .1)
-
-same-length-3 : tie.Need-same-length-3
-same-length-3 c = search needs
 
 returns-4 : tie.Need-returns-4
 returns-4 c =
@@ -101,21 +71,21 @@ pub read-typed-spec : {M : Type 1} → statement M
 read-typed-spec =
     tie.close
     (tie.spec
-    is-type-requires
+    (λ c κs. search needs)
     returns
-    sub-read-sequence
-    part-read-sequence-start
-    part-read-sequence-end
+    (λ c. search needs)
+    (λ c. search needs)
+    (λ c. search needs)
     read-sequence-requires
-    filling-requires
-    enum-told
-    enum-known-leaves
+    (λ c κs. search needs)
+    (λ c. search needs)
+    (λ c. search needs)
     mul-if3
-    same-length
+    (λ c. search needs)
     returns-2
     read-sequence-requires-2
-    same-length-2
+    (λ c. search needs)
     returns-3
-    same-length-3
+    (λ c. search needs)
     returns-4
     returns-5)
