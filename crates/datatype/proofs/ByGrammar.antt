@@ -8,13 +8,11 @@ use lib.Dec.{ltb}
 use lib.ListN.{length}
 use Rattle.datatype.specs.Grammar.{Items, TypeString}
 use Rattle.datatype.specs.Parse.{Parsed, malformed, parsed, typeOf}
-use Rattle.datatype.specs.Reading.{filling, partReads}
-use Rattle.datatype.specs.Answers.{mostPayload, refused, listed, result}
+use Rattle.datatype.specs.Answers.{mostPayload, refused, listed, payloadReads, result}
 use Rattle.datatype.proofs.Grammatical.{sound, complete}
 
 pub by-tree : (types payload : List ℕ) (room : ℕ) (t : Items) → TypeString types t
-    → result (typeOf types) payload room
-    ≡ cond (ltb mostPayload (length payload)) (refused 16) (listed room (filling (length payload) (partReads t payload 0)))
+    → result (typeOf types) payload room ≡ cond (ltb mostPayload (length payload)) (refused 16) (listed room (payloadReads t payload))
 unfolding result
 by-tree types payload room t w = rw (complete types t w)
 

@@ -14,7 +14,7 @@ use Rattle.datatype.specs.declared.kind.Kind.the-variants as kind
 use Rattle.datatype.specs.Kinds.{kindOf}
 use Rattle.datatype.specs.Grammar.{Item, Items, value, rest, struct, array, end, more, print, printItem, final, Some, ItemRules, PartRules, TypeString}
 use Rattle.datatype.specs.Parse.{Parsed, malformed, parsed, Head, no-item, one, closed, passed, inside, headed, itemOf, itemIn, joined, follow, partIn, partAt, itemAt, whole, typeOf, isType}
-use Rattle.datatype.proofs.LawsKinds.{told}
+use Rattle.datatype.proofs.LawsKinds.{letter-of}
 use Rattle.datatype.proofs.LawsGrammar.{bracket-shut, end-shut, item-open}
 use Rattle.datatype.proofs.LawsParse.{part-step}
 
@@ -88,14 +88,14 @@ module _ (part : ℕ → Bool → List ℕ → Parsed)
   sound-kind left true c s i r kind.Rest h e = none e
   sound-kind left false c s i r kind.Rest h e =
       let item : rest ≡ i = cc in
-      rw (← item) (cc (told c kind.Rest h), refl)
+      rw (← item) (cc (letter-of c kind.Rest h), refl)
   sound-kind left a c s i r kind.Struct h e =
       let w = sound-headed struct left false s i r e in
-      rw (w .1) (cc (told c kind.Struct h, w .2 .0, append-assoc (print (w .0)) (41 ∷ []) r), (w .2 .1, w .2 .2, w .2 .3))
+      rw (w .1) (cc (letter-of c kind.Struct h, w .2 .0, append-assoc (print (w .0)) (41 ∷ []) r), (w .2 .1, w .2 .2, w .2 .3))
   sound-kind left true c s i r kind.Array h e = none e
   sound-kind left false c s i r kind.Array h e =
       let w = sound-headed array left true s i r e in
-      rw (w .1) (cc (told c kind.Array h, w .2 .0, append-assoc (print (w .0)) (41 ∷ []) r), (refl, w .2 .1, w .2 .2, w .2 .3))
+      rw (w .1) (cc (letter-of c kind.Array h, w .2 .0, append-assoc (print (w .0)) (41 ∷ []) r), (refl, w .2 .1, w .2 .2, w .2 .3))
   sound-kind left a c s i r kind.Other h e = none e
 
   sound-item : (left : ℕ) (a : Bool) (s : List ℕ) (i : Item) (r : List ℕ) → itemIn part left a s ≡ one i r → ItemIs left a s i r

@@ -14,8 +14,8 @@ use Rattle.datatype.specs.declared.read.Answer.{Answer}
 use Rattle.datatype.specs.declared.read.Answer.the-variants as answer
 use Rattle.datatype.specs.Grammar.{Items}
 use Rattle.datatype.specs.Parse.{Parsed, malformed, parsed, typeOf, isType}
-use Rattle.datatype.specs.Reading.{Leaf, numbers, upto, filling, partReads}
-use Rattle.datatype.specs.Answers.{refused, listed, result, answerTo, told, tells, filled}
+use Rattle.datatype.specs.Reading.{Leaf, numbers, upto, partReads}
+use Rattle.datatype.specs.Answers.{refused, listed, payloadReads, result, answerTo, told, tells, filled}
 use Rattle.datatype.specs.Calls.{PartFrom, Room, Did, fillingTo, ReadsPart}
 use Rattle.datatype.proofs.LawsGrammar.{end-shut}
 use Rattle.datatype.proofs.Grammatical.{accepted, complete}
@@ -67,26 +67,26 @@ module _ (types payload list : List ℕ) (typed : isType (typeOf types) ≡ true
     readable =
         ((tree .0, tree .2), record { few = tree .3; placed = omega arith; short = short; within = omega arith; counted = omega arith })
 
-    result-is : result (typeOf types) payload (length list) ≡ listed (length list) (filling (length payload) (partReads (tree .0) payload 0))
+    result-is : result (typeOf types) payload (length list) ≡ listed (length list) (payloadReads (tree .0) payload)
     unfolding result
     result-is = rw (tree .1, le-ltb _ _ short)
 
     module _ (ys ys′ : List ℕ) (none : length ys′ ≡ 0) (r r′ : Read) (first : ReadsPart types 4 payload 0 ys ys′ 0 r)
         (fill : r′ ≡ fillingTo (length payload) r) where
-      did : Did (filling (length payload) (partReads (tree .0) payload 0)) ys ys′ 0 r′
+      did : Did (payloadReads (tree .0) payload) ys ys′ 0 r′
       did = rw fill (did-filling (length payload) (partReads (tree .0) payload 0) ys ys′ 0 r (first (tree .0) (tree .2)))
 
       pub answers-misfit : r′ ≡ read.Misfit → Answered types payload list (ys′ ++ list) answer.Misfit
       unfolding listed
       answers-misfit e =
           refuses types payload list (ys′ ++ list) answer.Misfit 16
-          (result-is ∙ rw (did-misfit (filling (length payload) (partReads (tree .0) payload 0)) ys ys′ 0 (rw e at did)))
+          (result-is ∙ rw (did-misfit (payloadReads (tree .0) payload) ys ys′ 0 (rw e at did)))
           (none-lent ys′ list none) refl
 
       module _ (p n : ℕ) (e : r′ ≡ read.Upto p n) where
-        found : (ls : List Leaf) × (filling (length payload) (partReads (tree .0) payload 0) ≡ upto p ls) × (n ≡ 0 + length ls)
+        found : (ls : List Leaf) × (payloadReads (tree .0) payload ≡ upto p ls) × (n ≡ 0 + length ls)
             × (ys′ ≡ sets ys (3 * 0) (numbers ls))
-        found = did-upto (filling (length payload) (partReads (tree .0) payload 0)) ys ys′ 0 p n (rw e at did)
+        found = did-upto (payloadReads (tree .0) payload) ys ys′ 0 p n (rw e at did)
 
         -- so that three numbers a leaf can be counted
         pub few-leaves : n ≤ 1301

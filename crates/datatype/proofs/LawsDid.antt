@@ -34,8 +34,8 @@ did-upto misfit l l′ k p n d = let z : _≡_ {A = ℕ} 0 1 = cc d in absurd (o
 did-upto (upto q ls) l l′ k p n d = (ls, cc (d .0), cc (d .0), d .1)
 
 -- what is left of a reading, with the list and the leaves so far, gives its answer
-abbrev pub Onward : Reading → List ℕ → ℕ → Reading → List ℕ → ℕ → Type 0
-Onward whole l k left l₁ n = (r : Read) (l₂ : List ℕ) → Did left l₁ l₂ n r → Did whole l l₂ k r
+abbrev pub Finishes : Reading → List ℕ → ℕ → Reading → List ℕ → ℕ → Type 0
+Finishes whole l k left l₁ n = (r : Read) (l₂ : List ℕ) → Did left l₁ l₂ n r → Did whole l l₂ k r
 
 -- nothing read
 pub did-none : (l : List ℕ) (p k : ℕ) → Did (upto p []) l l k (read.Upto p k)

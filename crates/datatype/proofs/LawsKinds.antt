@@ -20,16 +20,16 @@ Wide value.Text = Unit {0}
 Wide value.Counted = Unit {0}
 
 -- D, t and A are one letter each
-abbrev pub Told : ℕ → Kind → Type 0
-Told c (kind.Value v) = Wide v
-Told c kind.Rest = c ≡ 68
-Told c kind.Struct = c ≡ 116
-Told c kind.Array = c ≡ 65
-Told c kind.Other = Unit {0}
+abbrev pub LetterOf : ℕ → Kind → Type 0
+LetterOf c (kind.Value v) = Wide v
+LetterOf c kind.Rest = c ≡ 68
+LetterOf c kind.Struct = c ≡ 116
+LetterOf c kind.Array = c ≡ 65
+LetterOf c kind.Other = Unit {0}
 
-told-kind : (c : ℕ) → Told c (kindOf c)
+letter-kind : (c : ℕ) → LetterOf c (kindOf c)
 unfolding kindOf
-told-kind c =
+letter-kind c =
     by-test (eqb c 98) (λ e. rw e tt) (λ e. rw e (
     by-test (eqb c 67) (λ e. rw e (omega arith)) (λ e. rw e (
     by-test (eqb c 99) (λ e. rw e (omega arith)) (λ e. rw e (
@@ -48,5 +48,5 @@ told-kind c =
     by-test (eqb c 65) (λ e. rw e (eqb-true c 65 e)) (λ e. rw e (
     tt))))))))))))))))))))))))))))))))
 
-pub told : (c : ℕ) (k : Kind) → kindOf c ≡ k → Told c k
-told c k e = rw e at (told-kind c)
+pub letter-of : (c : ℕ) (k : Kind) → kindOf c ≡ k → LetterOf c k
+letter-of c k e = rw e at (letter-kind c)

@@ -19,7 +19,7 @@ use Rattle.datatype.specs.declared.kind.Value.the-variants as value
 use Rattle.datatype.specs.declared.kind.Kind.the-variants as kind
 use Rattle.datatype.specs.declared.leaf.Span.the-variants.{At, Misfit}
 use Rattle.datatype.specs.Kinds.{kindOf}
-use Rattle.datatype.proofs.LawsKinds.{told}
+use Rattle.datatype.proofs.LawsKinds.{letter-of}
 use Rattle.datatype.specs.Leaves.{fixedAt, boolAt, numberSpan, textAt, countedAt, spanOf}
 
 -- ---- a span that is one
@@ -65,7 +65,7 @@ unfolding spanOf boolAt
 span-fits value.Bool part from start size next h letter k e =
     by-test (leb (getD part from 0) 1) (λ t. fixed-fits part from start size next 1 h (omega arith) (rw t at e)) (λ t. never (rw t at e))
 span-fits (value.Fixed width) part from start size next h letter k e =
-    fixed-fits part from start size next width h (told letter (kind.Value (value.Fixed width)) k) e
+    fixed-fits part from start size next width h (letter-of letter (kind.Value (value.Fixed width)) k) e
 span-fits value.Packed part from start size next h letter k e = number-fits part from start size next (packedAt part from) refl e
 span-fits value.Text part from start size next h letter k e = text-fits part from start size next (before 0 (drop from part)) e
 span-fits value.Counted part from start size next h letter k e = let c = counted-fits part from start size next h e in omega arith

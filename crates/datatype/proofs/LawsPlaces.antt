@@ -7,7 +7,7 @@ use Prim.Native.Nat.{ℕ, _+_, _-_, _≤_, _<_}
 use native.Mathlib.Omega.{arith}
 use lib.ListN.{length, getD, drop, length-append, length-drop}
 use lib.Seq.{drop-append-seam, drop-drop}
-use Rattle.octets.proofs.LawsLists.{drop-next}
+use Rattle.octets.proofs.LawsLists.{front}
 use Rattle.datatype.specs.declared.kind.Kind.{Kind}
 use Rattle.datatype.specs.declared.kind.Kind.the-variants as kind
 use Rattle.datatype.specs.declared.kind.Value.{Value}
@@ -41,13 +41,6 @@ part-item s depth (more i u) going w =
       record { behind = print u ++ w .behind; printed = e; rules = w .rules .0 },
       record { behind = w .behind; printed = rw e (drop-append-seam (printItem i) (print u ++ w .behind)); rules = w .rules .2; ends = w .ends },
     )
-
--- a first element
-pub front : (xs : List ℕ) (at x : ℕ) (ys : List ℕ) → drop at xs ≡ x ∷ ys → (getD xs at 0 ≡ x) × (at < length xs) × (drop (at + 1) xs ≡ ys)
-front xs at x ys e =
-    let h : at < length xs = omega (arith, length-drop at xs, ap length e) in
-    let d = drop-next xs at h in
-    (cc, h, cc)
 
 -- an item's kind
 abbrev pub kindIs : Item → Kind

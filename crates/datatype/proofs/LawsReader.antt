@@ -10,6 +10,7 @@ use native.Mathlib.Omega.{arith}
 use native.Mathlib.Nat.{sub-zero}
 use lib.ListN.{length, getD, take, drop}
 use lib.Seq.{length-take-le, drop-drop}
+use Rattle.octets.proofs.LawsLists.{front}
 use Rattle.datatype.specs.declared.kind.Kind.{Kind}
 use Rattle.datatype.specs.declared.kind.Kind.the-variants as kind
 use Rattle.datatype.specs.declared.kind.Value.{Value}
@@ -27,8 +28,8 @@ use Rattle.datatype.proofs.kind.Kind.{the-type as kind-type}
 use Rattle.datatype.proofs.LawsLeaves.{span-fits, counted-fits}
 use Rattle.datatype.proofs.LawsTook.{Took, element-took, item-took}
 use Rattle.datatype.proofs.LawsReading.{elements-more, elements-done}
-use Rattle.datatype.proofs.LawsPlaces.{front, kindIs, item-first, item-place, part-ended, part-item, struct-inner, array-inner, is-value, is-struct, is-array}
-use Rattle.datatype.proofs.LawsDid.{Onward, did-upto, did-none, did-then, did-not, did-filling}
+use Rattle.datatype.proofs.LawsPlaces.{kindIs, item-first, item-place, part-ended, part-item, struct-inner, array-inner, is-value, is-struct, is-array}
+use Rattle.datatype.proofs.LawsDid.{Finishes, did-upto, did-none, did-then, did-not, did-filling}
 
 -- ---- an item by the kind of its letter
 
@@ -143,7 +144,7 @@ module _ (types part : List ℕ) (at depth next count : ℕ) (l l₁ : List ℕ)
         let g = array-took types at depth t w part next q (d .0) (omega arith) (d .1) in
         (omega (arith, g .onward), g .within, omega (arith, g .onward, g .few))
 
-    pub element-on : Onward (itemReads (array t) part next) l count (itemReads (array t) part q) l₁ n
+    pub element-on : Finishes (itemReads (array t) part next) l count (itemReads (array t) part q) l₁ n
     element-on r l₂ d =
         rw (array-more types at depth t w part next more-left)
         (did-then (partReads t part next) (λ p. itemReads (array t) part p) l l₁ l₂ count q n r (rw e at this) d)
@@ -179,7 +180,7 @@ module _ (types part : List ℕ) (place depth next count : ℕ) (l l₁ : List �
           record { few = room .few; placed = omega arith; short = room .short; within = g .within; counted = omega (arith, g .onward, g .few, room .counted) },
         )
 
-    pub turn-on : (u : Items) × PartFrom (drop place′ types) depth u × Onward (partReads t part next) l count (partReads u part q) l₁ n
+    pub turn-on : (u : Items) × PartFrom (drop place′ types) depth u × Finishes (partReads t part next) l count (partReads u part q) l₁ n
     unfolding partReads
     turn-on =
         let x = part-item (drop place types) depth t going w in

@@ -11,8 +11,8 @@ use lib.ListN.{length}
 use Rattle.octets.proofs.LawsTests.{by-test}
 use Rattle.datatype.specs.Grammar.{Items, PartRules}
 use Rattle.datatype.specs.Parse.{Parsed, malformed, parsed, typeOf}
-use Rattle.datatype.specs.Reading.{Leaf, InOrder, Reading, misfit, upto, filling, partReads}
-use Rattle.datatype.specs.Answers.{mostPayload, refused, leaves, listed, result}
+use Rattle.datatype.specs.Reading.{Leaf, InOrder, Reading, misfit, upto, partReads}
+use Rattle.datatype.specs.Answers.{mostPayload, refused, leaves, listed, payloadReads, result}
 use Rattle.datatype.proofs.Grammatical.{sound}
 use Rattle.datatype.proofs.LawsReading.{filling-fit}
 use Rattle.datatype.proofs.LawsTook.{part-took}
@@ -41,7 +41,7 @@ leaves-placed types payload room ls e = go (typeOf types) (λ t s h. sound types
     go malformed rules e = never e
     go (parsed t s) rules e =
         by-test (ltb mostPayload (length payload)) (λ long. never (rw long at e))
-        (λ short. let w = roomy room (filling (length payload) (partReads t payload 0)) ls (rw short at e) in
+        (λ short. let w = roomy room (payloadReads t payload) ls (rw short at e) in
         let f = filling-fit (length payload) (partReads t payload 0) (w .0) ls (w .1) in
         let g = part-took t 4 false payload 0 (w .0) ls (rules t s refl) (omega arith) (f .0) in
         record { ordered = rw (f .1) at (g .ordered); few = omega (arith, g .within, g .few); listed = w .2 })

@@ -6,6 +6,7 @@ use lib.Dec.{ltb}
 use lib.ListN.{length, drop}
 use Rattle.datatype.specs.declared.read.Answer.{Answer}
 use Rattle.datatype.specs.declared.read.Answer.the-variants.{Leaves, Malformed, Misfit, ShortList}
+use Rattle.datatype.specs.Grammar.{Items}
 use Rattle.datatype.specs.Parse.{Parsed, malformed, parsed, typeOf}
 use Rattle.datatype.specs.Reading.{Leaf, numbers, Reading, misfit, upto, filling, partReads}
 
@@ -23,11 +24,14 @@ unfoldable pub listed : ℕ → Reading → Result
 listed room misfit = refused 16
 listed room (upto p ls) = cond (ltb room (3 * length ls)) (refused 17) (leaves ls)
 
+-- a tree over a whole payload: "A reading consumes everything"
+abbrev pub payloadReads : Items → List ℕ → Reading
+payloadReads t payload = filling (length payload) (partReads t payload 0)
+
 -- "Order 15, 16, 17", for a list of so many numbers
 unfoldable pub result : Parsed → List ℕ → ℕ → Result
 result malformed payload room = refused 15
-result (parsed t s) payload room =
-    cond (ltb mostPayload (length payload)) (refused 16) (listed room (filling (length payload) (partReads t payload 0)))
+result (parsed t s) payload room = cond (ltb mostPayload (length payload)) (refused 16) (listed room (payloadReads t payload))
 
 -- of a type string, a payload and a list
 abbrev pub answerTo : List ℕ → List ℕ → List ℕ → Result

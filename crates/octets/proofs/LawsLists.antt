@@ -1,16 +1,23 @@
 -- Laws of lists that the code's places and parts ask for. Assumes nothing.
-use mathlib.Core.Path.{_≡_}
+use mathlib.Core.Path.{_≡_, ap}
 use mathlib.Core.List.{List, [], _∷_}
 use Prim.Native.Nat.{ℕ, zero, suc, _+_, _<_}
 use native.Mathlib.Omega.{arith}
 use native.Mathlib.Numerals.{add-one}
-use lib.ListN.{length, getD, take, drop}
+use lib.ListN.{length, getD, take, drop, length-drop}
 use lib.Seq.{drop-cons, getD-drop}
 use Rattle.octets.specs.Octets.{Octets}
 
 -- one element of what is left of a list, with the code's i + 1
 pub drop-next : (xs : List ℕ) (i : ℕ) → i < length xs → drop i xs ≡ getD xs i 0 ∷ drop (i + 1) xs
 drop-next xs i h = rw (add-one, drop-cons xs i 0)
+
+-- what is left of a list, by its first element
+pub front : (xs : List ℕ) (at x : ℕ) (ys : List ℕ) → drop at xs ≡ x ∷ ys → (getD xs at 0 ≡ x) × (at < length xs) × (drop (at + 1) xs ≡ ys)
+front xs at x ys e =
+    let h : at < length xs = omega (arith, length-drop at xs, ap length e) in
+    let d = drop-next xs at h in
+    (cc, h, cc)
 
 pub octets-drop : (n : ℕ) (xs : List ℕ) → Octets xs → Octets (drop n xs)
 octets-drop n xs o k = rw (getD-drop n xs k 0) (o (n + k))

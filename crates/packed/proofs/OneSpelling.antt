@@ -1,5 +1,5 @@
--- PROMISE: each number has one spelling. Whatever is read is what is written for the number read; the answer hangs on the at most three
--- octets from the place; and a place at or past the end is unreadable. Assumes nothing.
+-- PROMISE: each number has one spelling. Whatever is read is what is written for the number read, goes on and stays within the list; the
+-- answer hangs on the at most three octets from the place; and a place at or past the end is unreadable. Assumes nothing.
 use mathlib.Core.Path.{_≡_, sym, ap, _∙_}
 use mathlib.Core.List.{List, [], _∷_, _++_}
 use Prim.Native.Nat.{ℕ, zero, suc, _+_, _*_, _-_, _/_, _%_, _^_, _<_, _≤_}
@@ -7,7 +7,7 @@ use native.Mathlib.Omega.{arith}
 use native.Mathlib.Nat.{pow-succ', one-le-pow}
 use borrow.Author.Tests.{ltb-true, ltb-false, eqb-false}
 use lib.Dec.{eqb, ltb}
-use lib.ListN.{length, take, drop, length-append, length-drop}
+use lib.ListN.{length, take, drop, length-drop}
 use lib.Seq.{take-append-seam}
 use Rattle.octets.specs.Octets.{Octets}
 use Rattle.octets.proofs.LawsLists.{octets-drop}
@@ -35,28 +35,6 @@ from-joined low scale n next Unreadable e go = never e
 from-joined low scale n next (Number m to) e go =
     by-test (eqb m 0) (λ t. never (rw t at e)) (λ t. let e' = rw t at e in go m (cc) (eqb-false m 0 t) (cc))
 
--- with room for one octet more than is read, so that the cases are two
-spelled : (k at n next : ℕ) (xs : List ℕ) → Octets xs → numberIn k at xs ≡ Number n next
-    → (n < 128 ^ k) × (at < next) × (next ≡ at + length (packedIn k n)) × (packedIn k n ++ drop (length (packedIn k n)) xs ≡ xs)
-unfolding numberIn
-spelled zero at n next xs o e = never e
-spelled (suc k) at n next [] o e = never e
-spelled (suc k) at n next (x ∷ xs) o e =
-    by-test (ltb x 128)
-    (λ t. let e' = rw t at e in
-    let same : n ≡ x = cc in
-    let after : next ≡ at + 1 = cc in
-    let last : n < 128 = omega (arith, ltb-true x 128 t) in
-    let power : 1 ≤ 128 ^ k = one-le-pow k 128 (omega arith) in
-    rw (packed-last (suc k) n last) (rw (pow-succ' 128 k) (omega arith), omega arith, omega arith, ap (λ y. y ∷ xs) same))
-    (λ t. from-joined (x - 128) 128 n next (numberIn k (at + 1) xs) (rw t at e)
-    (λ m r some sum. let rest = spelled k (at + 1) m next xs (λ j. o (suc j)) r in
-    let high : 128 ≤ x = ltb-false x 128 t in
-    let octet : x < 256 = o zero in
-    let low : n % 128 + 128 ≡ x = omega arith in
-    let more : n / 128 ≡ m = omega arith in
-    rw (packed-more k n (omega arith), low, more) (rw (pow-succ' 128 k) (omega arith), omega arith, omega arith, ap (λ ys. x ∷ ys) (rest .3))))
-
 -- a reading goes on, and stays within its octets
 placed : (k at n next : ℕ) (xs : List ℕ) → numberIn k at xs ≡ Number n next → (at < next) × (next ≤ at + length xs)
 unfolding numberIn
@@ -74,6 +52,28 @@ pub place-after : (xs : List ℕ) (at n next : ℕ) → packedAt xs at ≡ Numbe
 unfolding packedAt
 place-after xs at n next e = let p = placed 3 at n next (drop at xs) e in omega (arith, length-drop at xs)
 
+-- with room for one octet more than is read, so that the cases are two
+spelled : (k at n next : ℕ) (xs : List ℕ) → Octets xs → numberIn k at xs ≡ Number n next
+    → (n < 128 ^ k) × (next ≡ at + length (packedIn k n)) × (packedIn k n ++ drop (length (packedIn k n)) xs ≡ xs)
+unfolding numberIn
+spelled zero at n next xs o e = never e
+spelled (suc k) at n next [] o e = never e
+spelled (suc k) at n next (x ∷ xs) o e =
+    by-test (ltb x 128)
+    (λ t. let e' = rw t at e in
+    let same : n ≡ x = cc in
+    let after : next ≡ at + 1 = cc in
+    let last : n < 128 = omega (arith, ltb-true x 128 t) in
+    let power : 1 ≤ 128 ^ k = one-le-pow k 128 (omega arith) in
+    rw (packed-last (suc k) n last) (rw (pow-succ' 128 k) (omega arith), omega arith, ap (λ y. y ∷ xs) same))
+    (λ t. from-joined (x - 128) 128 n next (numberIn k (at + 1) xs) (rw t at e)
+    (λ m r some sum. let rest = spelled k (at + 1) m next xs (λ j. o (suc j)) r in
+    let high : 128 ≤ x = ltb-false x 128 t in
+    let octet : x < 256 = o zero in
+    let low : n % 128 + 128 ≡ x = omega arith in
+    let more : n / 128 ≡ m = omega arith in
+    rw (packed-more k n (omega arith), low, more) (rw (pow-succ' 128 k) (omega arith), omega arith, ap (λ ys. x ∷ ys) (rest .2))))
+
 pub one-spelling : (xs : List ℕ) (at n next : ℕ) → Octets xs → packedAt xs at ≡ Number n next → Spelled xs at n next
 unfolding packedAt packed
 one-spelling xs at n next o e =
@@ -81,9 +81,9 @@ one-spelling xs at n next o e =
     let s' = rw (← (packed-room 2 n (s .0))) at s in
     record {
       most = omega arith;
-      end = s' .2;
-      inside = omega (arith, simp (length-append, length-drop) at (ap length (s' .3)));
-      octets = rw (← (s' .3)) (take-append-seam (packed n) _);
+      end = s' .1;
+      inside = place-after xs at n next e .1;
+      octets = rw (← (s' .2)) (take-append-seam (packed n) _);
     }
 
 pub same-octets : (xs ys : List ℕ) (at : ℕ) → take 3 (drop at xs) ≡ take 3 (drop at ys) → packedAt xs at ≡ packedAt ys at

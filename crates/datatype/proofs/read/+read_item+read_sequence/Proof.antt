@@ -15,7 +15,7 @@ use Rattle.datatype.specs.Parse.{closed}
 use Rattle.datatype.specs.Reading.{itemReads, partReads}
 use Rattle.datatype.specs.Calls.{PartFrom, ItemFrom, Room}
 use Rattle.datatype.proofs.LawsReader.{reads-value, span-small, reads-rest, struct-at, struct-room, struct-misfit, struct-reads, reads-array, array-at, element-misfit, element-room, element-on, elements-end, sequence-ends, turn-misfit, turn-room, turn-on}
-use Rattle.datatype.proofs.LawsDid.{Onward}
+use Rattle.datatype.proofs.LawsDid.{Finishes}
 use Rattle.datatype.proofs.LawsPlaces.{part-item, item-first, array-inner}
 use Rattle.datatype.proofs.LawsLeaves.{counted-fits}
 use borrow.Fn.Kinds.{In}
@@ -83,7 +83,7 @@ item-claims t = (
 abbrev item-inv : item-lts.InvT-loop
 item-inv types at depth part from list₀ leaves letter next₀ count₀ list next count =
     (next ≤ length part) × (count ≤ next + at) × (length list ≡ length list₀)
-    × ((t : Items) → ItemFrom (drop at types) depth (array t) → Onward (itemReads (array t) part from) list₀ leaves (itemReads (array t) part next) list count)
+    × ((t : Items) → ItemFrom (drop at types) depth (array t) → Finishes (itemReads (array t) part from) list₀ leaves (itemReads (array t) part next) list count)
 
 abbrev item-μ : item-lts.MeasureT-loop
 item-μ types at depth part from list₀ leaves letter next₀ count₀ list next count = length part - next
@@ -243,7 +243,7 @@ abbrev sequence-inv : sequence-lts.InvT-loop
 sequence-inv types at depth part from list₀ leaves place₀ next₀ count₀ list place next count =
     Room types part place next count × (at ≤ place) × (length list ≡ length list₀)
     × ((t : Items) → PartFrom (drop at types) depth t
-    → (u : Items) × PartFrom (drop place types) depth u × Onward (partReads t part from) list₀ leaves (partReads u part next) list count)
+    → (u : Items) × PartFrom (drop place types) depth u × Finishes (partReads t part from) list₀ leaves (partReads u part next) list count)
 
 abbrev sequence-μ : sequence-lts.MeasureT-loop
 sequence-μ types at depth part from list₀ leaves place₀ next₀ count₀ list place next count = length types - place
