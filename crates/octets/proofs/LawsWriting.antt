@@ -1,12 +1,13 @@
 -- Writers chain: one that goes on where another stopped wrote both. Assumes nothing.
 use mathlib.Core.Path.{_≡_, ap, ap₂, _∙_}
 use mathlib.Core.List.{List, [], _∷_, _++_}
-use Prim.Native.Nat.{ℕ, suc, _+_}
+use Prim.Native.Nat.{ℕ, suc, _+_, _<_}
 use native.Mathlib.Omega.{arith}
 use native.Mathlib.Nat.{add-zero}
-use lib.ListN.{length, set, length-append}
+use lib.ListN.{length, getD, drop, set, length-append}
 use lib.Seq.{sets}
 use Rattle.octets.specs.Writing.{Wrote}
+use Rattle.octets.proofs.LawsLists.{drop-next}
 
 pub sets-append : (xs l : List ℕ) (at : ℕ) (ys : List ℕ) → sets (sets l at xs) (at + length xs) ys ≡ sets l at (xs ++ ys)
 sets-append [] l at ys = ap (λ k. sets l k ys) (add-zero at)
@@ -24,3 +25,10 @@ wrote-both {xs = xs} {ys = ys} v w =
       held = w .held ∙ wrote-then ys v;
       end = omega (arith, v .end, w .end, length-append xs ys);
     }
+
+-- what is still to be put, with its first octet put
+pub put-next : (l : List ℕ) (at i : ℕ) (xs : List ℕ) → i < length xs
+    → sets (set l (at + i) (getD xs i 0)) (at + (i + 1)) (drop (i + 1) xs) ≡ sets l (at + i) (drop i xs)
+put-next l at i xs h =
+    let next : at + (i + 1) ≡ suc (at + i) = omega arith in
+    rw (next, drop-next xs i h)

@@ -1,6 +1,8 @@
 pub mod LawsTests
 pub mod LawsLists
 pub mod LawsFinding
+pub mod LawsScanning
+pub mod LawsPadding
 pub mod LawsRuns
 pub mod LawsWriting
 pub mod LawsLittleEndian

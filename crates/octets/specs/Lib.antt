@@ -3,3 +3,5 @@ pub mod Runs
 pub mod LittleEndian
 pub mod Writing
 pub mod Finding
+pub mod Scanning
+pub mod Padding

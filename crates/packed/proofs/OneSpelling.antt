@@ -4,18 +4,18 @@ use mathlib.Core.Path.{_≡_, sym, ap, _∙_}
 use mathlib.Core.List.{List, [], _∷_, _++_}
 use Prim.Native.Nat.{ℕ, zero, suc, _+_, _*_, _-_, _/_, _%_, _^_, _<_, _≤_}
 use native.Mathlib.Omega.{arith}
-use native.Mathlib.Nat.{pow-succ', one-le-pow}
+use native.Mathlib.Nat.{add-zero, pow-succ', one-le-pow}
 use borrow.Author.Tests.{ltb-true, ltb-false, eqb-false}
 use lib.Dec.{eqb, ltb}
-use lib.ListN.{length, take, drop, length-drop}
-use lib.Seq.{take-append-seam}
+use lib.ListN.{length, getD, take, drop, length-drop}
+use lib.Seq.{take-append-seam, getD-drop}
 use Rattle.octets.specs.Octets.{Octets}
 use Rattle.octets.proofs.LawsLists.{octets-drop}
 use Rattle.octets.proofs.LawsTests.{by-test}
 use Rattle.packed.specs.Packed.{packed, packedIn, joined, numberIn, packedAt}
 use Rattle.packed.specs.declared.Packed.{Packed}
 use Rattle.packed.specs.declared.Packed.the-variants.{Number, Unreadable}
-use Rattle.packed.proofs.LawsPacked.{packed-last, packed-more, packed-room, number-none, number-take}
+use Rattle.packed.proofs.LawsPacked.{packed-last, packed-more, packed-room, number-none, number-last, number-take}
 
 -- what a reading of n up to `next` tells of the octets from `at` on
 pub record Spelled (xs : List ℕ) (at n next : ℕ) : Type 0 where
@@ -85,6 +85,24 @@ one-spelling xs at n next o e =
       inside = place-after xs at n next e .1;
       octets = rw (← (s' .2)) (take-append-seam (packed n) _);
     }
+
+first-octet : (k at n next : ℕ) (xs : List ℕ) → numberIn k at xs ≡ Number n next → n < 128 → (getD xs 0 0 ≡ n) × (next ≡ at + 1)
+unfolding numberIn
+first-octet zero at n next xs e h = never e
+first-octet (suc k) at n next [] e h = never e
+first-octet (suc k) at n next (x ∷ xs) e h =
+    by-test (ltb x 128)
+    (λ t. let e' = rw t at e in (cc, cc))
+    (λ t. from-joined (x - 128) 128 n next (numberIn k (at + 1) xs) (rw t at e) (λ m r some sum. absurd (some (omega arith))))
+
+-- a number below 128 is the one octet at the place
+pub one-octet : (xs : List ℕ) (at n next : ℕ) → packedAt xs at ≡ Number n next → n < 128 → (getD xs at 0 ≡ n) × (next ≡ at + 1)
+unfolding packedAt
+one-octet xs at n next e h = rw (getD-drop at xs 0 0, add-zero at) at (first-octet 3 at n next (drop at xs) e h)
+
+pub of-octet : (xs : List ℕ) (at : ℕ) → at < length xs → getD xs at 0 < 128 → packedAt xs at ≡ Number (getD xs at 0) (at + 1)
+unfolding packedAt
+of-octet xs at l h = number-last xs at 3 (omega arith) l h
 
 pub same-octets : (xs ys : List ℕ) (at : ℕ) → take 3 (drop at xs) ≡ take 3 (drop at ys) → packedAt xs at ≡ packedAt ys at
 unfolding packedAt

@@ -1,0 +1,41 @@
+-- Laws of the rules that more than one proof asks for. Assumes nothing.
+use mathlib.Core.Path.{_≡_, sym}
+use mathlib.Core.Bool.{Bool, true, _&&_}
+use mathlib.Core.List.{List}
+use Prim.Native.Nat.{ℕ, _≤_}
+use borrow.Author.Tests.{eq-eqb, le-leb, leb-true}
+use lib.ListN.{length, take}
+use lib.Seq.{length-take-le}
+use Rattle.octets.specs.Padding.{pad}
+use Rattle.octets.proofs.LawsTests.{and-l, and-r}
+use Rattle.octets.proofs.LawsPadding.{pad-length, pad-front, pad-zeros}
+use Rattle.device.specs.declared.state.Link.{Link}
+use Rattle.device.specs.State.{isText}
+use Rattle.device.specs.Rules.{padded, textRule, sized}
+
+-- what is told of two tests joined is told of each
+pub both-told : {a b : Bool} → a && b ≡ true → (a ≡ true) × (b ≡ true)
+both-told {a} {b} t = (and-l a b t, and-r a b t)
+
+-- a padded count is within its array, so that so many octets stand at its front
+pub padded-within : (xs : List ℕ) (n : ℕ) → padded xs n ≡ true → n ≤ length xs
+unfolding padded
+padded-within xs n t = leb-true n (length xs) (both-told t .0)
+
+pub padded-front : (xs : List ℕ) (n : ℕ) → padded xs n ≡ true → n ≡ length (take n xs)
+padded-front xs n t = sym (length-take-le n xs (padded-within xs n t))
+
+-- a text is short enough
+pub text-told : (n : ℕ) (xs : List ℕ) → isText n xs ≡ true → length xs ≤ n
+unfolding isText
+text-told n xs t = leb-true (length xs) n (both-told t .0)
+
+-- a text that is put into its array keeps its rule if it is a text
+pub text-pad : (n : ℕ) (xs : List ℕ) → length xs ≤ n → textRule (pad n xs) (length xs) ≡ isText n xs
+unfolding textRule padded
+text-pad n xs h = rw (pad-length n xs h, le-leb (length xs) n h, pad-zeros n xs, pad-front n xs)
+
+-- the lengths of a link's arrays
+pub sized-by : (l : Link) → length (l .numbers) ≡ 9 → length (l .name .octets) ≡ 16 → length (l .ports .octets) ≡ 16 → sized l ≡ true
+unfolding sized
+sized-by l a b c = rw (eq-eqb _ _ a, eq-eqb _ _ b, eq-eqb _ _ c)

@@ -1,0 +1,5 @@
+pub mod LawsPorts
+pub mod LawsRules
+pub mod LawsSetup
+pub mod StateRules
+pub mod SetupKeepsRules

@@ -1,0 +1,185 @@
+-- PROMISE: what the rules tell. A link that is set up keeps its rule, one that is not is the fresh link; the settings are in their ranges,
+-- and the arrays have their lengths. Assumes nothing.
+use mathlib.Core.Path.{_≡_, refl, sym, _∙_}
+use mathlib.Core.Bool.{true}
+use mathlib.Core.List.{List, []}
+use Prim.Native.Nat.{ℕ, _≤_, _<_}
+use native.Mathlib.Omega.{arith}
+use native.Mathlib.Nat.{sub-zero}
+use borrow.Author.Tests.{eqb-true, leb-true, lt-ltb, le-ltb}
+use lib.Dec.{eqb, leb}
+use lib.ListN.{length, getD, replicate, length-replicate, getD-replicate, length-take}
+use lib.Seq.{ext-getD}
+use Rattle.octets.specs.Padding.{pad}
+use Rattle.octets.specs.Scanning.{allFrom, allBelow, zerosFrom}
+use Rattle.octets.proofs.LawsScanning.{all-at}
+use Rattle.property.specs.Numbers.{numbers, numberAt, powerState, within}
+use Rattle.device.specs.declared.state.Link.{Link}
+use Rattle.device.specs.declared.state.Settings.{Settings}
+use Rattle.device.specs.declared.state.Device.{Device}
+use Rattle.device.specs.State.{textOf, defaults, freshLink, noLink}
+use Rattle.device.specs.Rules.{textRule, portsRule, inRange, stackRule, sized, linkRule, atDefaults, isFresh, linkKept, settingsRule, rules}
+use Rattle.device.proofs.LawsRules.{both-told, padded-within}
+
+-- ---- a link's arrays
+
+pub sized-told : (l : Link) → sized l ≡ true → (length (l .numbers) ≡ 9) × (length (l .name .octets) ≡ 16) × (length (l .ports .octets) ≡ 16)
+unfolding sized
+sized-told l t =
+    let a = both-told t in
+    let b = both-told (a .1) in
+    (eqb-true _ _ (a .0), eqb-true _ _ (b .0), eqb-true _ _ (b .1))
+
+-- ---- a link that is set up
+
+pub record LinkFacts (l : Link) : Type 0 where
+  pub sized : sized l ≡ true
+  pub status : leb (l .status) 127 ≡ true
+  pub range : inRange (l .numbers) ≡ true
+  pub stack : stackRule (l .numbers) ≡ true
+  pub name : textRule (l .name .octets) (l .name .len) ≡ true
+  pub ports : portsRule (l .ports .octets) (l .ports .len) ≡ true
+
+pub link-told : (l : Link) → linkRule l ≡ true → LinkFacts l
+unfolding linkRule
+link-told l t =
+    let a = both-told t in
+    let b = both-told (a .1) in
+    let c = both-told (b .1) in
+    let d = both-told (c .1) in
+    let e = both-told (d .1) in
+    record { sized = a .0; status = b .0; range = c .0; stack = d .0; name = e .0; ports = e .1 }
+
+pub link-from : (l : Link) → LinkFacts l → linkRule l ≡ true
+unfolding linkRule
+link-from l f = rw (f .sized, f .status, f .range, f .stack, f .name, f .ports)
+
+-- ---- a link that is not set up
+
+zeros : (n : ℕ) (xs : List ℕ) → length xs ≡ n → zerosFrom 0 xs ≡ true → xs ≡ pad n []
+unfolding pad zerosFrom allBelow
+zeros n xs e t =
+    let zs : List ℕ = replicate n 0 in
+    let all = rw (sub-zero (length xs)) at t in
+    rw (sub-zero n) (ext-getD 0 xs zs (e ∙ sym (length-replicate n 0))
+    (λ i h. eqb-true _ _ (all-at (length xs) (λ k. eqb (getD xs k 0) 0) all i h) ∙ sym (getD-replicate n i 0 0 (omega arith))))
+
+default-at : (k : ℕ) → k < 9 → getD defaults k 0 ≡ numberAt k .default
+unfolding defaults numbers allBelow allFrom
+default-at k h = eqb-true _ _ (all-at 9 (λ j. eqb (getD defaults j 0) (numberAt j .default)) refl k h)
+
+at-defaults : (xs : List ℕ) → length xs ≡ 9 → atDefaults xs ≡ true → xs ≡ defaults
+unfolding atDefaults defaults numbers
+at-defaults xs e t =
+    ext-getD 0 xs defaults e
+    (λ i h. let low : i < 9 = omega arith in
+    eqb-true _ _ (all-at 9 (λ k. eqb (getD xs k 0) (numberAt k .default)) t i low) ∙ sym (default-at i low))
+
+abbrev Fresh : Link → Type 0
+Fresh l =
+    (sized l ≡ true) × (eqb (l .status) 114 ≡ true) × (eqb (l .name .len) 0 ≡ true) × (eqb (l .ports .len) 0 ≡ true)
+    × (atDefaults (l .numbers) ≡ true) × (zerosFrom 0 (l .name .octets) ≡ true) × (zerosFrom 0 (l .ports .octets) ≡ true)
+
+fresh-told : (l : Link) → isFresh l ≡ true → Fresh l
+unfolding isFresh
+fresh-told l t =
+    let a = both-told t in
+    let b = both-told (a .1) in
+    let c = both-told (b .1) in
+    let d = both-told (c .1) in
+    let e = both-told (d .1) in
+    let f = both-told (e .1) in
+    (a .0, b .0, c .0, d .0, e .0, f .0, f .1)
+
+-- a link at its defaults is the fresh link
+pub fresh-link : (l : Link) → isFresh l ≡ true → l ≡ freshLink
+fresh-link l t =
+    let f = fresh-told l t in
+    let size = sized-told l (f .0) in
+    let numbers = at-defaults (l .numbers) (size .0) (f .4) in
+    let name = zeros 16 (l .name .octets) (size .1) (f .5) in
+    let ports = zeros 16 (l .ports .octets) (size .2) (f .6) in
+    λ i. record {
+      status = eqb-true (l .status) 114 (f .1) i;
+      numbers = numbers i;
+      name = record { octets = name i; len = eqb-true (l .name .len) 0 (f .2) i };
+      ports = record { octets = ports i; len = eqb-true (l .ports .len) 0 (f .3) i };
+    }
+
+-- ---- settings
+
+pub record SettingsFacts (s : Settings) : Type 0 where
+  pub sized : length (s .text .octets) ≡ 32
+  pub address : length (s .address) ≡ 8
+  pub some : 1 ≤ s .links
+  pub few : s .links ≤ 4
+  pub vendor : s .vendor ≤ 2097151
+  pub text : textRule (s .text .octets) (s .text .len) ≡ true
+
+pub settings-told : (s : Settings) → settingsRule s ≡ true → SettingsFacts s
+unfolding settingsRule
+settings-told s t =
+    let a = both-told t in
+    let b = both-told (a .1) in
+    let c = both-told (b .1) in
+    let d = both-told (c .1) in
+    let e = both-told (d .1) in
+    record {
+      sized = eqb-true _ _ (a .0);
+      address = eqb-true _ _ (b .0);
+      some = leb-true _ _ (c .0);
+      few = leb-true _ _ (d .0);
+      vendor = leb-true _ _ (e .0);
+      text = e .1;
+    }
+
+-- a text is within its array
+pub text-within : (xs : List ℕ) (n : ℕ) → textRule xs n ≡ true → n ≤ length xs
+unfolding textRule
+text-within xs n t = padded-within xs n (both-told t .0)
+
+pub text-most : (s : Settings) → settingsRule s ≡ true → s .text .len ≤ 32
+text-most s t = let f = settings-told s t in omega (arith, text-within (s .text .octets) (s .text .len) (f .text))
+
+pub text-short : (s : Settings) → settingsRule s ≡ true → length (textOf (s .text)) ≤ 32
+text-short s t = omega (arith, text-most s t, length-take (s .text .len) (s .text .octets))
+
+-- ---- the box
+
+module _ (d : Device) (t : rules d ≡ true) where
+  parts : (settingsRule (d .settings) ≡ true) × (within powerState (d .power) ≡ true) × (eqb (length (d .links)) 4 ≡ true)
+      × (allBelow 4 (λ k. linkKept (d .settings .links) (getD (d .links) k noLink) k) ≡ true)
+  unfolding rules
+  parts =
+      let a = both-told t in
+      let b = both-told (a .1) in
+      let c = both-told (b .1) in
+      (a .0, b .0, c .0, c .1)
+
+  pub settings-of : settingsRule (d .settings) ≡ true
+  settings-of = parts .0
+
+  pub power-of : within powerState (d .power) ≡ true
+  power-of = parts .1
+
+  pub four : length (d .links) ≡ 4
+  four = eqb-true _ _ (parts .2)
+
+  pub some : 1 ≤ d .settings .links
+  some = settings-told (d .settings) settings-of .some
+
+  pub few : d .settings .links ≤ 4
+  few = settings-told (d .settings) settings-of .few
+
+  kept : (k : ℕ) → k < 4 → linkKept (d .settings .links) (getD (d .links) k noLink) k ≡ true
+  kept k h = all-at 4 (λ j. linkKept (d .settings .links) (getD (d .links) j noLink) j) (parts .3) k h
+
+  -- a link that is set up keeps its rule
+  pub link-at : (k : ℕ) → k < d .settings .links → linkRule (getD (d .links) k noLink) ≡ true
+  unfolding linkKept
+  link-at k h = rw (lt-ltb k (d .settings .links) h) at (kept k (omega (arith, few)))
+
+  -- and one that is not is the fresh link
+  pub unset-at : (k : ℕ) → k < 4 → d .settings .links ≤ k → getD (d .links) k noLink ≡ freshLink
+  unfolding linkKept
+  unset-at k h past = fresh-link (getD (d .links) k noLink) (rw (le-ltb k (d .settings .links) past) at (kept k h))

@@ -1,0 +1,16 @@
+// The state of the box: what setup makes, what the rules allow, what a link holds.
+pub mod ports;
+mod rules;
+mod settings;
+mod state;
+pub mod text;
+
+pub use rules::stack_keeps;
+pub use settings::Answer;
+pub use settings::Configured;
+pub use settings::setup;
+pub use state::Device;
+pub use state::Held;
+pub use state::Link;
+pub use state::Settings;
+pub use state::Text;

@@ -1,0 +1,126 @@
+// The state of the box, by value. An array that a count goes with is filled from its front and holds zeros past the count.
+use octets::write_octets;
+use property::slot;
+use property::status;
+ghost use mathlib.Core.Path.{_≡_};
+ghost use mathlib.Core.List.{_++_};
+ghost use Prim.Native.Nat.{_+_, _≤_};
+ghost use lib.ListN.{length};
+ghost use Rattle.device.specs.State.{heldFrom, textFrom, freshLink, fresh};
+
+// The version text that setup gave.
+pub struct Text {
+    pub octets: [u8; Device::MOST_TEXT],
+    pub len: usize,
+}
+
+// Octets that a link holds: its name, or its ports as they travel, two octets each.
+pub struct Held {
+    pub octets: [u8; Link::MOST_HELD],
+    pub len: usize,
+}
+
+pub struct Link {
+    pub status: u8,
+    pub numbers: [u32; slot::COUNT],
+    pub name: Held,
+    pub ports: Held,
+}
+
+// What setup gave; `links` is how many are set up.
+pub struct Settings {
+    pub links: usize,
+    pub vendor: u32,
+    pub text: Text,
+    pub address: [u8; Device::ADDRESS],
+}
+
+pub struct Device {
+    pub settings: Settings,
+    pub power: u8,
+    pub links: [Link; Device::MOST_LINKS],
+}
+
+impl Text {
+    pub fn of(octets: &[u8]) -> Text
+        requires { ⌜ length (now octets) ≤ 32 ⌝ }
+        ensures { λ r. ⌜ r ≡ textFrom (now (octets .entry)) ⌝ }
+    {
+        let mut padded = [0u8; Device::MOST_TEXT];
+        let len = write_octets(&mut padded, 0, octets);
+        Text {
+            octets: padded,
+            len,
+        }
+    }
+}
+
+impl Held {
+    // Two runs of octets, the second right behind the first.
+    pub fn of(first: &[u8], second: &[u8]) -> Held
+        requires { ⌜ length (now first) + length (now second) ≤ 16 ⌝ }
+        ensures { λ r. ⌜ r ≡ heldFrom (now (first .entry) ++ now (second .entry)) ⌝ }
+    {
+        let mut padded = [0u8; Link::MOST_HELD];
+        let next = write_octets(&mut padded, 0, first);
+        let len = write_octets(&mut padded, next, second);
+        Held {
+            octets: padded,
+            len,
+        }
+    }
+}
+
+impl Link {
+    // The most octets of a name.
+    pub const MOST_NAME: usize = 16;
+    // The most assisting ports.
+    pub const MOST_PORTS: usize = 8;
+    // The octets of either.
+    pub const MOST_HELD: usize = 16;
+
+    // A link with every default.
+    pub fn fresh() -> Link
+        ensures { λ r. ⌜ r ≡ freshLink ⌝ }
+    {
+        Link {
+            status: status::RESET_SOFTWARE,
+            numbers: [0, 11, 0, 65535, 0, 0, 0, 240, 65534],
+            name: Held {
+                octets: [0; Link::MOST_HELD],
+                len: 0,
+            },
+            ports: Held {
+                octets: [0; Link::MOST_HELD],
+                len: 0,
+            },
+        }
+    }
+}
+
+impl Device {
+    pub const MOST_LINKS: usize = 4;
+
+    pub const MOST_VENDOR: u32 = 2097151;
+    // The most octets of the version text.
+    pub const MOST_TEXT: usize = 32;
+    // The octets of the hardware address.
+    pub const ADDRESS: usize = 8;
+    // The most octets of a reply body.
+    pub const MOST_REPLY: usize = 61;
+    // The least output space of a receiving call: any reply's frame fits.
+    pub const LEAST_OUTPUT: usize = 128;
+
+    // A box as after a reset.
+    pub fn fresh(settings: Settings) -> Device
+        ensures { λ r. ⌜ r ≡ fresh settings ⌝ }
+    {
+        let link = Link::fresh();
+        let links = [link; Device::MOST_LINKS];
+        Device {
+            settings,
+            power: 4,
+            links,
+        }
+    }
+}

@@ -1,0 +1,100 @@
+-- PROMISE: every row of the two tables keeps its rule, each by one test that is computed over the whole table; what is looked up is the
+-- row of that property, and keeps the rule. Assumes nothing.
+use mathlib.Core.Path.{_≡_, refl, sym, ap, _∙_}
+use mathlib.Core.Bool.{true, cond, not, _&&_}
+use mathlib.Core.List.{List, [], _∷_}
+use Prim.Native.Nat.{ℕ, zero, suc, _+_, _<_, _≤_}
+use native.Mathlib.Omega.{arith}
+use native.Mathlib.Numerals.{add-one}
+use borrow.Author.Tests.{eq-eqb, ne-eqb, eqb-true, ltb-true}
+use lib.Dec.{eqb, ltb}
+use lib.ListN.{length, getD, drop}
+use lib.Seq.{drop-cons}
+use Rattle.octets.specs.Scanning.{allFrom, allBelow}
+use Rattle.octets.proofs.LawsScanning.{all-at}
+use Rattle.octets.proofs.LawsTests.{chosen, and-l, and-r}
+use Rattle.property.specs.declared.row.Kind.{Kind}
+use Rattle.property.specs.declared.row.Kind.the-variants.{Power, Number}
+use Rattle.property.specs.declared.row.Row.{Row}
+use Rattle.property.specs.declared.row.Found.{Found}
+use Rattle.property.specs.declared.row.Found.the-variants.{At, Unknown}
+use Rattle.property.specs.Rows.{rows, noRow, lookupIn, lookup}
+use Rattle.property.specs.Numbers.{numbers, numberAt, powerState, within}
+use Rattle.property.specs.Rule.{ofDevice, isShared, kindRule, rowRule, numberRule}
+
+pub rows-keep : (i : ℕ) → i < 20 → rowRule (getD rows i noRow) ≡ true
+unfolding rows allBelow allFrom
+rows-keep i h = all-at 20 (λ j. rowRule (getD rows j noRow)) refl i h
+
+pub numbers-keep : (slot : ℕ) → slot < 9 → numberRule (numberAt slot) ≡ true
+unfolding numbers within allBelow allFrom
+numbers-keep slot h = all-at 9 (λ k. numberRule (numberAt k)) refl slot h
+
+pub power-keeps : numberRule powerState ≡ true
+unfolding within
+power-keeps = refl
+
+-- a row that is found is one of the table's, and that of the property asked for
+abbrev pub FoundIn : List Row → ℕ → Found → Type 0
+FoundIn rs id Unknown = Unit {0}
+FoundIn rs id (At r) = (i : ℕ) × (i < length rs) × (getD rs i noRow ≡ r) × (r .id ≡ id)
+
+later : (x : Row) (rs : List Row) (id : ℕ) (f : Found) → FoundIn rs id f → FoundIn (x ∷ rs) id f
+later x rs id Unknown h = tt
+later x rs id (At r) h = (suc (h .0), omega arith, h .2, h .3)
+
+found-in : (rs : List Row) (id : ℕ) → FoundIn rs id (lookupIn rs id)
+unfolding lookupIn
+found-in [] id = tt
+found-in (r ∷ rs) id =
+    chosen (FoundIn (r ∷ rs) id) (eqb (r .id) id) (λ e. (zero, omega arith, refl, eqb-true (r .id) id e)) (λ e. later r rs id (lookupIn rs id) (found-in rs id))
+
+-- what is looked up keeps the rule, and is the property asked for
+abbrev pub Asked : ℕ → Found → Type 0
+Asked id Unknown = Unit {0}
+Asked id (At r) = (rowRule r ≡ true) × (r .id ≡ id)
+
+asked : (id : ℕ) (f : Found) → FoundIn rows id f → Asked id f
+unfolding rows
+asked id Unknown h = tt
+asked id (At r) h = (rw (← (h .2)) (rows-keep (h .0) (h .1)), h .3)
+
+pub lookup-asked : (id : ℕ) → Asked id (lookup id)
+unfolding lookup
+lookup-asked id = asked id (lookupIn rows id) (found-in rows id)
+
+-- ---- what the rule tells
+
+rest-told : (r : Row) → rowRule r ≡ true → ltb (r .id) 16384 && kindRule (r .kind) r ≡ true
+rest-told r t = and-r (cond (ofDevice (r .scope)) (isShared (r .kind)) (not (isShared (r .kind)))) _ (and-r (r .get) _ t)
+
+pub small-id : (r : Row) → rowRule r ≡ true → r .id < 16384
+small-id r t = ltb-true (r .id) 16384 (and-l (ltb (r .id) 16384) _ (rest-told r t))
+
+kind-told : (r : Row) (k : Kind) → r .kind ≡ k → rowRule r ≡ true → kindRule k r ≡ true
+kind-told r k e t = rw (← e) (and-r (ltb (r .id) 16384) _ (rest-told r t))
+
+pub power-id : (r : Row) → r .kind ≡ Power → rowRule r ≡ true → r .id ≡ 7
+power-id r e t = eqb-true (r .id) 7 (and-l (eqb (r .id) 7) _ (kind-told r Power e t))
+
+pub slot-below : (r : Row) (slot : ℕ) → r .kind ≡ Number slot → rowRule r ≡ true → slot < 9
+slot-below r slot e t = ltb-true slot 9 (and-l (ltb slot 9) _ (kind-told r (Number slot) e t))
+
+-- ---- looking from the i-th row on
+
+here : (rs : List Row) (i id : ℕ) → i < length rs
+    → lookupIn (drop i rs) id ≡ cond (eqb (getD rs i noRow .id) id) (At (getD rs i noRow)) (lookupIn (drop (i + 1) rs) id)
+unfolding lookupIn
+here rs i id h = rw (add-one, drop-cons rs i noRow h)
+
+pub hit : (i id : ℕ) → i < 20 → getD rows i noRow .id ≡ id → lookupIn (drop i rows) id ≡ At (getD rows i noRow)
+unfolding rows
+hit i id h e = here rows i id h ∙ rw (eq-eqb _ _ e)
+
+pub miss : (i id : ℕ) → i < 20 → (getD rows i noRow .id ≡ id → ⊥) → lookupIn (drop i rows) id ≡ lookupIn (drop (i + 1) rows) id
+unfolding rows
+miss i id h e = here rows i id h ∙ rw (ne-eqb _ _ e)
+
+pub past : (i id : ℕ) → i ≡ 20 → lookupIn (drop i rows) id ≡ Unknown
+unfolding rows lookupIn
+past i id e = rw e

@@ -1,0 +1,54 @@
+-- 01, The property table: the numbers.
+use Prim.Native.Nat.{ℕ, _^_, _-_}
+use mathlib.Core.Bool.{Bool, true, false, cond}
+use mathlib.Core.List.{List, [], _∷_}
+use lib.Dec.{ltb, leb}
+use lib.ListN.{getD}
+use Rattle.property.specs.declared.number.Number.{Number}
+
+-- "a bool not 00 or 01: 9"
+abbrev pub bool : Number
+bool = record { width = 1; low = 0; high = 1; top = 255; outside = 9; default = 0 }
+
+-- a number of so many octets, from low to high: "value out of range: 3"
+abbrev pub number : ℕ → ℕ → ℕ → ℕ → Number
+number width low high default = record { width = width; low = low; high = high; top = 256 ^ width - 1; outside = 3; default = default }
+
+-- by slot
+unfoldable pub numbers : List Number
+numbers =
+    bool ∷  -- 32 PHY enabled
+    number 1 11 26 11 ∷  -- 33 channel
+    number 1 216 8 0 ∷  -- 37 transmit power, -40 to 8 (proofs/SignedRange.antt)
+    number 2 0 65535 65535 ∷  -- 54 PAN id
+    bool ∷  -- 65 interface up
+    bool ∷  -- 66 stack up
+    number 1 0 255 0 ∷  -- 94 Thread mode
+    number 4 0 4294967295 240 ∷  -- 5376 child timeout
+    number 2 0 65535 65534 ∷  -- 5377 RLOC16
+    []
+
+-- 7 power state
+abbrev pub powerState : Number
+powerState = number 1 0 4 4
+
+-- the value past the end of the numbers
+abbrev pub noNumber : Number
+noNumber = record { width = 0; low = 0; high = 0; top = 0; outside = 0; default = 0 }
+
+abbrev pub numberAt : ℕ → Number
+numberAt slot = getD numbers slot noNumber
+
+-- "65 interface up" and "66 stack up"
+abbrev pub interfaceUp : ℕ
+interfaceUp = 4
+
+abbrev pub stackUp : ℕ
+stackUp = 5
+
+-- from low to high; where low is above high, from low over the top of the width to high
+unfoldable pub within : Number → ℕ → Bool
+within n v =
+    cond (ltb (n .top) v) false
+    (cond (leb (n .low) (n .high)) (cond (ltb v (n .low)) false (leb v (n .high)))
+    (cond (leb v (n .high)) true (leb (n .low) v)))
