@@ -1,21 +1,17 @@
 -- Laws of the rules that more than one proof asks for. Assumes nothing.
 use mathlib.Core.Path.{_≡_, sym}
-use mathlib.Core.Bool.{Bool, true, _&&_}
+use mathlib.Core.Bool.{true}
 use mathlib.Core.List.{List}
 use Prim.Native.Nat.{ℕ, _≤_}
 use borrow.Author.Tests.{eq-eqb, le-leb, leb-true}
 use lib.ListN.{length, take}
 use lib.Seq.{length-take-le}
 use Rattle.octets.specs.Padding.{pad}
-use Rattle.octets.proofs.LawsTests.{and-l, and-r}
+use Rattle.octets.proofs.LawsTests.{both-told}
 use Rattle.octets.proofs.LawsPadding.{pad-length, pad-front, pad-zeros}
 use Rattle.device.specs.declared.state.Link.{Link}
 use Rattle.device.specs.State.{isText}
 use Rattle.device.specs.Rules.{padded, textRule, sized}
-
--- what is told of two tests joined is told of each
-pub both-told : {a b : Bool} → a && b ≡ true → (a ≡ true) × (b ≡ true)
-both-told {a} {b} t = (and-l a b t, and-r a b t)
 
 -- a padded count is within its array, so that so many octets stand at its front
 pub padded-within : (xs : List ℕ) (n : ℕ) → padded xs n ≡ true → n ≤ length xs

@@ -7,10 +7,11 @@ use borrow.Author.Tests.{eq-eqb, ne-eqb, lt-leb}
 use lib.Dec.{eqb, leb}
 use lib.ListN.{length}
 use Rattle.octets.proofs.LawsPadding.{pad-length}
+use Rattle.octets.proofs.LawsTests.{both-told}
 use Rattle.device.specs.State.{isText, fresh}
 use Rattle.device.specs.Rules.{settingsRule}
 use Rattle.device.specs.Setup.{isSetup, settingsFrom, refusal, setupFor}
-use Rattle.device.proofs.LawsRules.{both-told, text-pad}
+use Rattle.device.proofs.LawsRules.{text-pad}
 
 module _ (links vendor : ℕ) (text address : List ℕ) where
   pub setup-ready : isSetup links vendor text address ≡ true

@@ -3,23 +3,24 @@
 use mathlib.Core.Path.{_≡_, refl, sym, _∙_}
 use mathlib.Core.Bool.{true}
 use mathlib.Core.List.{List, []}
-use Prim.Native.Nat.{ℕ, _≤_, _<_}
+use Prim.Native.Nat.{ℕ, _%_, _≤_, _<_}
 use native.Mathlib.Omega.{arith}
 use native.Mathlib.Nat.{sub-zero}
-use borrow.Author.Tests.{eqb-true, leb-true, lt-ltb, le-ltb}
+use borrow.Author.Tests.{eq-eqb, eqb-true, leb-true, lt-ltb, le-ltb}
 use lib.Dec.{eqb, leb}
-use lib.ListN.{length, getD, replicate, length-replicate, getD-replicate, length-take}
-use lib.Seq.{ext-getD}
+use lib.ListN.{length, getD, replicate, length-replicate, getD-replicate, take}
+use lib.Seq.{ext-getD, length-take-le}
 use Rattle.octets.specs.Padding.{pad}
 use Rattle.octets.specs.Scanning.{allFrom, allBelow, zerosFrom}
-use Rattle.octets.proofs.LawsScanning.{all-at}
+use Rattle.octets.proofs.LawsScanning.{all-at, all-of}
 use Rattle.property.specs.Numbers.{numbers, numberAt, powerState, within}
+use Rattle.octets.proofs.LawsTests.{both-told}
 use Rattle.device.specs.declared.state.Link.{Link}
 use Rattle.device.specs.declared.state.Settings.{Settings}
 use Rattle.device.specs.declared.state.Device.{Device}
-use Rattle.device.specs.State.{textOf, defaults, freshLink, noLink}
-use Rattle.device.specs.Rules.{textRule, portsRule, inRange, stackRule, sized, linkRule, atDefaults, isFresh, linkKept, settingsRule, rules}
-use Rattle.device.proofs.LawsRules.{both-told, padded-within}
+use Rattle.device.specs.State.{octetsOf, portsIn, distinct, defaults, freshLink, noLink}
+use Rattle.device.specs.Rules.{padded, textRule, portsRule, inRange, stackRule, sized, linkRule, atDefaults, isFresh, linkKept, settingsRule, rules}
+use Rattle.device.proofs.LawsRules.{padded-within}
 
 -- ---- a link's arrays
 
@@ -106,15 +107,55 @@ fresh-link l t =
       ports = record { octets = ports i; len = eqb-true (l .ports .len) 0 (f .3) i };
     }
 
+-- ---- octets in their arrays
+
+-- so many octets at the front of an array of so many places
+pub record Room (xs : List ℕ) (n places : ℕ) : Type 0 where
+  pub inside : n ≤ length xs
+  pub most : n ≤ places
+  pub counted : length (take n xs) ≡ n
+
+room : (xs : List ℕ) (n places : ℕ) → length xs ≡ places → padded xs n ≡ true → Room xs n places
+room xs n places size t =
+    let inside = padded-within xs n t in
+    record { inside = inside; most = omega arith; counted = length-take-le n xs inside }
+
+text-room : (xs : List ℕ) (n places : ℕ) → length xs ≡ places → textRule xs n ≡ true → Room xs n places
+unfolding textRule
+text-room xs n places size t = room xs n places size (both-told t .0)
+
+ports-told : (xs : List ℕ) (n : ℕ) → portsRule xs n ≡ true → (padded xs n ≡ true) × (eqb (n % 2) 0 ≡ true) × (distinct (portsIn (take n xs)) ≡ true)
+unfolding portsRule
+ports-told xs n t =
+    let a = both-told t in
+    let b = both-told (a .1) in
+    (a .0, b .0, b .1)
+
+module _ (l : Link) (t : linkRule l ≡ true) where
+  pub nine-numbers : length (l .numbers) ≡ 9
+  nine-numbers = sized-told l (link-told l t .sized) .0
+
+  pub name-room : Room (l .name .octets) (l .name .len) 16
+  name-room = let f = link-told l t in text-room _ _ 16 (sized-told l (f .sized) .1) (f .name)
+
+  pub ports-room : Room (l .ports .octets) (l .ports .len) 16
+  ports-room = let f = link-told l t in room _ _ 16 (sized-told l (f .sized) .2) (ports-told _ _ (f .ports) .0)
+
+  -- ports have two octets each, and none stands twice
+  pub ports-even : length (octetsOf (l .ports)) % 2 ≡ 0
+  ports-even = rw (ports-room .counted) (eqb-true _ _ (ports-told _ _ (link-told l t .ports) .1))
+
+  pub ports-distinct : distinct (portsIn (octetsOf (l .ports))) ≡ true
+  ports-distinct = ports-told _ _ (link-told l t .ports) .2
+
 -- ---- settings
 
 pub record SettingsFacts (s : Settings) : Type 0 where
-  pub sized : length (s .text .octets) ≡ 32
+  pub text : Room (s .text .octets) (s .text .len) 32
   pub address : length (s .address) ≡ 8
   pub some : 1 ≤ s .links
-  pub few : s .links ≤ 4
+  pub links : s .links ≤ 4
   pub vendor : s .vendor ≤ 2097151
-  pub text : textRule (s .text .octets) (s .text .len) ≡ true
 
 pub settings-told : (s : Settings) → settingsRule s ≡ true → SettingsFacts s
 unfolding settingsRule
@@ -125,26 +166,19 @@ settings-told s t =
     let d = both-told (c .1) in
     let e = both-told (d .1) in
     record {
-      sized = eqb-true _ _ (a .0);
+      text = text-room _ _ 32 (eqb-true _ _ (a .0)) (e .1);
       address = eqb-true _ _ (b .0);
       some = leb-true _ _ (c .0);
-      few = leb-true _ _ (d .0);
+      links = leb-true _ _ (d .0);
       vendor = leb-true _ _ (e .0);
-      text = e .1;
     }
 
--- a text is within its array
-pub text-within : (xs : List ℕ) (n : ℕ) → textRule xs n ≡ true → n ≤ length xs
-unfolding textRule
-text-within xs n t = padded-within xs n (both-told t .0)
-
-pub text-most : (s : Settings) → settingsRule s ≡ true → s .text .len ≤ 32
-text-most s t = let f = settings-told s t in omega (arith, text-within (s .text .octets) (s .text .len) (f .text))
-
-pub text-short : (s : Settings) → settingsRule s ≡ true → length (textOf (s .text)) ≤ 32
-text-short s t = omega (arith, text-most s t, length-take (s .text .len) (s .text .octets))
-
 -- ---- the box
+
+pub rules-from : (d : Device) → settingsRule (d .settings) ≡ true → within powerState (d .power) ≡ true → length (d .links) ≡ 4
+    → ((k : ℕ) → k < 4 → linkKept (d .settings .links) (getD (d .links) k noLink) k ≡ true) → rules d ≡ true
+unfolding rules
+rules-from d s p four kept = rw (s, p, eq-eqb _ _ four, all-of 4 (λ k. linkKept (d .settings .links) (getD (d .links) k noLink) k) kept)
 
 module _ (d : Device) (t : rules d ≡ true) where
   parts : (settingsRule (d .settings) ≡ true) × (within powerState (d .power) ≡ true) × (eqb (length (d .links)) 4 ≡ true)
@@ -169,9 +203,9 @@ module _ (d : Device) (t : rules d ≡ true) where
   some = settings-told (d .settings) settings-of .some
 
   pub few : d .settings .links ≤ 4
-  few = settings-told (d .settings) settings-of .few
+  few = settings-told (d .settings) settings-of .links
 
-  kept : (k : ℕ) → k < 4 → linkKept (d .settings .links) (getD (d .links) k noLink) k ≡ true
+  pub kept : (k : ℕ) → k < 4 → linkKept (d .settings .links) (getD (d .links) k noLink) k ≡ true
   kept k h = all-at 4 (λ j. linkKept (d .settings .links) (getD (d .links) j noLink) j) (parts .3) k h
 
   -- a link that is set up keeps its rule

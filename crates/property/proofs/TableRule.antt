@@ -1,13 +1,13 @@
 -- PROMISE: every row of the two tables keeps its rule, each by one test that is computed over the whole table; what is looked up is the
 -- row of that property, and keeps the rule. Assumes nothing.
 use mathlib.Core.Path.{_≡_, refl, sym, ap, _∙_}
-use mathlib.Core.Bool.{true, cond, not, _&&_}
+use mathlib.Core.Bool.{Bool, true, false, cond, not, _&&_}
 use mathlib.Core.List.{List, [], _∷_}
-use Prim.Native.Nat.{ℕ, zero, suc, _+_, _<_, _≤_}
+use Prim.Native.Nat.{ℕ, zero, suc, _+_, _^_, _<_, _≤_}
 use native.Mathlib.Omega.{arith}
 use native.Mathlib.Numerals.{add-one}
-use borrow.Author.Tests.{eq-eqb, ne-eqb, eqb-true, ltb-true}
-use lib.Dec.{eqb, ltb}
+use borrow.Author.Tests.{eq-eqb, ne-eqb, eqb-true, ltb-true, leb-true}
+use lib.Dec.{eqb, ltb, leb}
 use lib.ListN.{length, getD, drop}
 use lib.Seq.{drop-cons}
 use Rattle.octets.specs.Scanning.{allFrom, allBelow}
@@ -18,6 +18,7 @@ use Rattle.property.specs.declared.row.Kind.the-variants.{Power, Number}
 use Rattle.property.specs.declared.row.Row.{Row}
 use Rattle.property.specs.declared.row.Found.{Found}
 use Rattle.property.specs.declared.row.Found.the-variants.{At, Unknown}
+use Rattle.property.specs.declared.number.Number.{Number as Numeric}
 use Rattle.property.specs.Rows.{rows, noRow, lookupIn, lookup}
 use Rattle.property.specs.Numbers.{numbers, numberAt, powerState, within}
 use Rattle.property.specs.Rule.{ofDevice, isShared, kindRule, rowRule, numberRule}
@@ -68,6 +69,18 @@ lookup-asked id = asked id (lookupIn rows id) (found-in rows id)
 rest-told : (r : Row) → rowRule r ≡ true → ltb (r .id) 16384 && kindRule (r .kind) r ≡ true
 rest-told r t = and-r (cond (ofDevice (r .scope)) (isShared (r .kind)) (not (isShared (r .kind)))) _ (and-r (r .get) _ t)
 
+-- a row's scope is that of its kind
+same-test : (a b : Bool) → cond a b (not b) ≡ true → a ≡ b
+same-test true true t = refl
+same-test true false t = sym t
+same-test false true t = t
+same-test false false t = refl
+
+pub scope-told : (r : Row) → rowRule r ≡ true → ofDevice (r .scope) ≡ isShared (r .kind)
+scope-told r t =
+    same-test (ofDevice (r .scope)) (isShared (r .kind))
+    (and-l (cond (ofDevice (r .scope)) (isShared (r .kind)) (not (isShared (r .kind)))) _ (and-r (r .get) _ t))
+
 pub small-id : (r : Row) → rowRule r ≡ true → r .id < 16384
 small-id r t = ltb-true (r .id) 16384 (and-l (ltb (r .id) 16384) _ (rest-told r t))
 
@@ -79,6 +92,13 @@ power-id r e t = eqb-true (r .id) 7 (and-l (eqb (r .id) 7) _ (kind-told r Power 
 
 pub slot-below : (r : Row) (slot : ℕ) → r .kind ≡ Number slot → rowRule r ≡ true → slot < 9
 slot-below r slot e t = ltb-true slot 9 (and-l (ltb slot 9) _ (kind-told r (Number slot) e t))
+
+pub width-most : (n : Numeric) → numberRule n ≡ true → n .width ≤ 4
+width-most n t = leb-true (n .width) 4 (and-l (leb (n .width) 4) _ (and-r (leb 1 (n .width)) _ t))
+
+pub outside-most : (n : Numeric) → numberRule n ≡ true → leb (n .outside) 127 ≡ true
+outside-most n t =
+    and-l (leb (n .outside) 127) _ (and-r (eqb (suc (n .top)) (256 ^ n .width)) _ (and-r (leb (n .width) 4) _ (and-r (leb 1 (n .width)) _ t)))
 
 -- ---- looking from the i-th row on
 

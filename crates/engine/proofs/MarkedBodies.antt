@@ -1,0 +1,22 @@
+-- PROMISE: every marked body of 01 has the reply that 01 gives it, in one statement over the table. Assumes nothing.
+use mathlib.Core.Path.{_≡_, refl}
+use mathlib.Core.List.{map}
+use Rattle.octets.specs.Finding.{before}
+use Rattle.octets.specs.LittleEndian.{le, leOctets}
+use Rattle.octets.specs.Padding.{pad}
+use Rattle.packed.specs.Packed.{packed, packedIn, joined, numberIn, packedAt}
+use Rattle.property.specs.Rows.{rows, lookupIn, lookup, allows}
+use Rattle.property.specs.Numbers.{numbers, within}
+use Rattle.device.specs.State.{goodText, isText, portsIn, holds, distinct, defaults, fresh}
+use Rattle.device.specs.Setup.{isSetup, refusal, setupFor}
+use Rattle.engine.specs.View.{powerAfter}
+use Rattle.engine.specs.Verdict.{commandOf, byRow, byProperty, byCommand, verdict}
+use Rattle.engine.specs.Perform.{getWith, valueIn, conflicts, numberTo, setNumber, powerTo, setPower, setName, setPorts, setKind, insertPort, without, removePort, perform}
+use Rattle.engine.specs.Value.{fixedValue, numberValue, valueOf}
+use Rattle.engine.specs.Decide.{statusReply, replyCommand, content, replied, replying, concluded, reached, judgedBy, judged, stated, decisionOf, decide}
+use Rattle.engine.specs.Engine.{linkOf, isSetUp, affect, settled, engine}
+use Rattle.engine.specs.Marked.{freshBox, repliesTo, marked}
+
+pub marked-bodies : map (λ l. repliesTo freshBox (l .bodies)) marked ≡ map (λ l. l .replies) marked
+unfolding before le leOctets pad packed packedIn joined numberIn packedAt rows lookupIn lookup allows numbers within goodText isText portsIn holds distinct defaults fresh isSetup refusal setupFor powerAfter commandOf byRow byProperty byCommand verdict getWith valueIn conflicts numberTo setNumber powerTo setPower setName setPorts setKind insertPort without removePort perform fixedValue numberValue valueOf statusReply replyCommand content replied replying concluded reached judgedBy judged stated decisionOf decide linkOf isSetUp affect settled engine freshBox repliesTo marked
+marked-bodies = refl

@@ -1,0 +1,40 @@
+-- PROMISE: "A refusal changes only that link's last status. NOOP sets it to 0; other successes leave it." A link that is not set up
+-- changes nothing. Assumes nothing.
+use mathlib.Core.Path.{_≡_, refl, ap, _∙_}
+use mathlib.Core.Bool.{true, false, cond}
+use mathlib.Core.List.{List}
+use Prim.Native.Nat.{ℕ}
+use lib.ListN.{set}
+use Rattle.device.specs.Rules.{settingsRule, linkRule}
+use Rattle.device.specs.declared.state.Link.{Link}
+use Rattle.device.specs.declared.state.Device.{Device}
+use Rattle.engine.specs.declared.view.View.{View}
+use Rattle.engine.specs.declared.view.Effect.{Effect}
+use Rattle.engine.specs.View.{viewOf}
+use Rattle.engine.specs.Decide.{headerOf, statusReply, withStatus, Judged, stopped, noop, reset, success, judged, stated, decisionOf, decide}
+use Rattle.engine.specs.Engine.{linkOf, isSetUp, affect, Answer, settled, engine}
+use Rattle.engine.proofs.LawsJudged.{Sound, judged-sound}
+
+-- the box with one link's last status changed
+abbrev pub statusSet : Device → ℕ → ℕ → Device
+statusSet d k s = record { settings = d .settings; power = d .power; links = set (d .links) k (withStatus (viewOf k d .link) s) }
+
+module _ (d : Device) (b : List ℕ) (up : isSetUp (d .settings) b ≡ true) where
+  pub refusal-status : (s : ℕ) → judged (viewOf (linkOf b) d) b ≡ stopped s
+      → engine d b ≡ record { device = statusSet d (linkOf b) s; reply = statusReply (headerOf b) s }
+  unfolding engine settled decide decisionOf stated affect
+  refusal-status s e = rw (up, e)
+
+  pub noop-status : judged (viewOf (linkOf b) d) b ≡ noop
+      → engine d b ≡ record { device = statusSet d (linkOf b) 0; reply = statusReply (headerOf b) 0 }
+  unfolding engine settled decide decisionOf stated affect
+  noop-status e = rw (up, e)
+
+-- a success other than NOOP and RESET leaves the last status that the link had
+pub success-status : (v : View) (b : List ℕ) (e : Effect) (l : Link) (reply : List ℕ) → settingsRule (v .settings) ≡ true → linkRule (v .link) ≡ true
+    → judged v b ≡ success e l reply → l .status ≡ v .link .status
+success-status v b e l reply s t j = (rw j at (judged-sound v s t b)) .1
+
+pub not-set-up : (d : Device) (b : List ℕ) → isSetUp (d .settings) b ≡ false → engine d b ≡ record { device = d; reply = statusReply (headerOf b) 6 }
+unfolding engine
+not-set-up d b e = rw e

@@ -1,0 +1,90 @@
+-- PROMISE: the engine keeps the rules of the state, body by body and over any list of bodies. Assumes nothing.
+use mathlib.Core.Path.{_≡_, refl, _∙_}
+use mathlib.Core.Bool.{true}
+use mathlib.Core.List.{List, [], _∷_}
+use Prim.Native.Nat.{ℕ, _<_, _≤_}
+use native.Mathlib.Omega.{arith}
+use borrow.Author.Tests.{eqb-true, eqb-false, leb-true, le-leb, ltb-true, lt-ltb, le-ltb}
+use lib.Dec.{eqb, ltb, leb}
+use lib.ListN.{length, getD, set, length-set}
+use lib.Seq.{getD-set-same, getD-set-other}
+use Rattle.octets.proofs.LawsTests.{by-test, chosen, and-r}
+use Rattle.property.specs.Numbers.{powerState, within}
+use Rattle.device.specs.State.{noLink}
+use Rattle.device.specs.Rules.{sized, linkRule, linkKept, settingsRule, rules}
+use Rattle.device.specs.declared.state.Link.{Link}
+use Rattle.device.specs.declared.state.Device.{Device}
+use Rattle.device.proofs.SetupKeepsRules.{fresh-keeps}
+use Rattle.device.proofs.StateRules.{LinkFacts, link-told, link-from, settings-of, power-of, four, few, kept, link-at, rules-from}
+use Rattle.engine.specs.declared.view.View.{View}
+use Rattle.engine.specs.declared.view.Effect.{Effect}
+use Rattle.engine.specs.declared.view.Effect.the-variants.{None, Reset, Powered}
+use Rattle.engine.specs.View.{viewOf}
+use Rattle.engine.specs.Decide.{headerOf, withStatus, Judged, stopped, noop, reset, success, judged, stated, decisionOf, decide}
+use Rattle.engine.specs.Engine.{linkOf, isSetUp, affect, engine}
+use Rattle.engine.specs.Merged.{deviceStep, deviceAfter, isReset, isPower, effectOf}
+use Rattle.engine.proofs.LawsJudged.{Sound, judged-sound}
+use Rattle.engine.proofs.Separation.{body-set-up, body-not-set-up}
+
+-- ---- the link
+
+status-kept : (l : Link) (s : ℕ) → LinkFacts l → leb s 127 ≡ true → LinkFacts (withStatus l s)
+unfolding sized
+status-kept l s f h = record { sized = f .sized; status = h; range = f .range; stack = f .stack; name = f .name; ports = f .ports }
+
+link-by : (v : View) (h : ℕ) (j : Judged) → LinkFacts (v .link) → Sound v j → LinkFacts (decisionOf v h j .link)
+unfolding decisionOf stated
+link-by v h (stopped s) f t = status-kept (v .link) s f t
+link-by v h noop f t = status-kept (v .link) 0 f refl
+link-by v h reset f t = f
+link-by v h (success e l reply) f t = t .0
+
+pub decide-keeps : (v : View) (b : List ℕ) → settingsRule (v .settings) ≡ true → linkRule (v .link) ≡ true → linkRule (decide v b .link) ≡ true
+unfolding decide
+decide-keeps v b s t = link-from _ (link-by v (headerOf b) (judged v b) (link-told (v .link) t) (judged-sound v s t b))
+
+-- ---- the box
+
+abbrev Sane : Effect → Type 0
+Sane None = Unit {0}
+Sane Reset = Unit {0}
+Sane (Powered x) = within powerState x ≡ true
+
+sane : (b : List ℕ) → Sane (effectOf b)
+unfolding effectOf isPower within
+sane b =
+    chosen Sane (isReset b) (λ _. tt)
+    (λ _. chosen Sane (isPower b)
+    (λ e. let most = leb-true (getD b 3 0) 4 (and-r (eqb (getD b 2 0) 7) _ (and-r (eqb (getD b 1 0) 3) _ (and-r (eqb (length b) 4) _ e))) in
+    rw (le-ltb 255 (getD b 3 0) (omega arith), le-ltb (getD b 3 0) 0 (omega arith), le-leb (getD b 3 0) 4 most))
+    (λ _. tt))
+
+module _ (d : Device) (t : rules d ≡ true) (k : ℕ) (l : Link) (up : k < d .settings .links) (rule : linkRule l ≡ true) where
+  links-kept : (j : ℕ) → j < 4 → linkKept (d .settings .links) (getD (set (d .links) k l) j noLink) j ≡ true
+  links-kept j h =
+      by-test (eqb j k)
+      (λ e. let same : j ≡ k = eqb-true j k e in
+      rw (same, getD-set-same (d .links) k l noLink (omega (arith, four d t, few d t))) own)
+      (λ e. rw (getD-set-other (d .links) k j l noLink (eqb-false j k e)) (kept d t j h))
+    where
+      own : linkKept (d .settings .links) l k ≡ true
+      own = unfold linkKept in rw (lt-ltb k (d .settings .links) up) rule
+
+  affect-keeps : (e : Effect) → Sane e → rules (affect e d k l) ≡ true
+  unfolding affect
+  affect-keeps None s = rules-from _ (settings-of d t) (power-of d t) (length-set (d .links) k l ∙ four d t) links-kept
+  affect-keeps Reset s = fresh-keeps (d .settings) (settings-of d t)
+  affect-keeps (Powered x) s = rules-from _ (settings-of d t) s (length-set (d .links) k l ∙ four d t) links-kept
+
+pub body-keeps : (d : Device) (b : List ℕ) → rules d ≡ true → rules (engine d b .device) ≡ true
+body-keeps d b t =
+    by-test (isSetUp (d .settings) b)
+    (λ e. let up : linkOf b < d .settings .links = unfold isSetUp in ltb-true (linkOf b) (d .settings .links) e in
+    rw (body-set-up d b e)
+    (affect-keeps d t (linkOf b) _ up (decide-keeps (viewOf (linkOf b) d) b (settings-of d t) (link-at d t (linkOf b) up)) (effectOf b) (sane b)))
+    (λ e. rw (body-not-set-up d b e) t)
+
+pub bodies-keep : (d : Device) (bs : List (List ℕ)) → rules d ≡ true → rules (deviceAfter d bs) ≡ true
+unfolding deviceAfter
+bodies-keep d [] t = t
+bodies-keep d (b ∷ bs) t = bodies-keep (deviceStep d b) bs (body-keeps d b t)

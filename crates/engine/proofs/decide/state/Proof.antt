@@ -1,0 +1,15 @@
+-- The link is the one given, with another status. Assumes nothing.
+use mathlib.Core.Path.{refl}
+use borrow.Author.Needs.{needs}
+use Rattle.engine.specs.Decide.{stated}
+use Rattle.engine.proofs.decide.state.Statement.{statement}
+use Rattle.engine.proofs.decide.state.Tie as tie
+
+pub state-spec : {M : Type 1} → statement M
+unfolding stated
+state-spec =
+    tie.close
+    (tie.spec
+    (λ c κs. search needs)
+    (λ c. search needs)
+    (λ c. record { effect = refl; link = refl; reply = c .before .before .write-status .ensures }))

@@ -1,0 +1,111 @@
+-- A body on a link that is set up (01, Commands).
+use Prim.Native.Nat.{ℕ}
+use mathlib.Core.Bool.{cond}
+use mathlib.Core.List.{List, [], _∷_, _++_}
+use mathlib.Core.Path.{_≡_}
+use lib.Dec.{ltb}
+use lib.ListN.{length, getD, drop}
+use Rattle.octets.specs.Writing.{Wrote}
+use Rattle.packed.specs.Packed.{packed}
+use Rattle.property.specs.declared.row.Command.{Command}
+use Rattle.property.specs.declared.row.Command.the-variants.{Get, Set, Insert, Remove}
+use Rattle.property.specs.declared.row.Kind.{Kind}
+use Rattle.property.specs.declared.row.Row.{Row}
+use Rattle.device.specs.declared.state.Link.{Link}
+use Rattle.engine.specs.declared.view.View.{View}
+use Rattle.engine.specs.declared.view.Effect.{Effect}
+use Rattle.engine.specs.declared.view.Effect.the-variants as effect
+use Rattle.engine.specs.declared.perform.Outcome.{Outcome}
+use Rattle.engine.specs.declared.perform.Outcome.the-variants.{Done, Refused}
+use Rattle.engine.specs.declared.verdict.Verdict.{Verdict}
+use Rattle.engine.specs.declared.verdict.Verdict.the-variants as verdict
+use Rattle.engine.specs.declared.decide.Decided.{Decided}
+use Rattle.engine.specs.View.{after}
+use Rattle.engine.specs.Verdict.{verdict as verdictOf}
+use Rattle.engine.specs.Perform.{perform}
+use Rattle.engine.specs.Value.{valueOf}
+
+-- "Header: two bits 10, two bits link, four bits transaction"
+abbrev pub headerOf : List ℕ → ℕ
+headerOf b = getD b 0 0
+
+-- ---- replies
+
+-- "A refusal is command 6, property 0, status"
+unfoldable pub statusReply : ℕ → ℕ → List ℕ
+statusReply h s = h ∷ 6 ∷ 0 ∷ s ∷ []
+
+-- "GET (2) and SET (3) reply command 6 with number and value held; INSERT (4) replies 7 and REMOVE (5) replies 8 with the item"
+unfoldable pub replyCommand : Command → ℕ
+replyCommand Get = 6
+replyCommand Set = 6
+replyCommand Insert = 7
+replyCommand Remove = 8
+
+unfoldable pub content : View → Command → Kind → List ℕ → List ℕ
+content v Get k p = valueOf v k
+content v Set k p = valueOf v k
+content v Insert k p = p
+content v Remove k p = p
+
+-- "A reply repeats the request's header"
+unfoldable pub replied : View → ℕ → Command → Row → List ℕ → List ℕ
+replied v h c r p = h ∷ replyCommand c ∷ (packed (r .id) ++ content v c (r .kind) p)
+
+-- ---- what a body comes to
+
+pub data Judged : Type 0 where
+  stopped : ℕ → Judged  -- refused, with a status
+  noop : Judged
+  reset : Judged
+  success : Effect → Link → List ℕ → Judged  -- the effect on the whole box, the link, the reply
+
+-- step 9, "a reply body over 61 octets: 7"
+unfoldable pub replying : Effect → Link → List ℕ → Judged
+replying e l reply = cond (ltb 61 (length reply)) (stopped 7) (success e l reply)
+
+-- the value of the reply is the one held after the command
+unfoldable pub concluded : View → ℕ → Command → Row → List ℕ → Link → Outcome → Judged
+concluded v h c r p l (Refused s) = stopped s
+concluded v h c r p l (Done e) = replying e l (replied (after v e l) h c r p)
+
+unfoldable pub reached : View → ℕ → Command → Row → List ℕ → Judged
+reached v h c r p = concluded v h c r p (perform (v .link) c (r .kind) p .link) (perform (v .link) c (r .kind) p .outcome)
+
+unfoldable pub judgedBy : View → List ℕ → Verdict → Judged
+judgedBy v b (verdict.Refuse step s) = stopped s
+judgedBy v b verdict.Noop = noop
+judgedBy v b verdict.Reset = reset
+judgedBy v b (verdict.Reach c r start) = reached v (headerOf b) c r (drop start b)
+
+unfoldable pub judged : View → List ℕ → Judged
+judged v b = judgedBy v b (verdictOf b)
+
+-- ---- what it does
+
+pub record Decision : Type 0 where
+  pub effect : Effect
+  pub link : Link
+  pub reply : List ℕ
+
+abbrev pub withStatus : Link → ℕ → Link
+withStatus l s = record { status = s; numbers = l .numbers; name = l .name; ports = l .ports }
+
+unfoldable pub stated : Link → ℕ → ℕ → Decision
+stated l h s = record { effect = effect.None; link = withStatus l s; reply = statusReply h s }
+
+-- "A refusal changes only that link's last status. NOOP sets it to 0; other successes leave it."; RESET "announces 80 06 00 72"
+unfoldable pub decisionOf : View → ℕ → Judged → Decision
+decisionOf v h (stopped s) = stated (v .link) h s
+decisionOf v h noop = stated (v .link) h 0
+decisionOf v h reset = record { effect = effect.Reset; link = v .link; reply = statusReply 0x80 114 }
+decisionOf v h (success e l reply) = record { effect = e; link = l; reply = reply }
+
+unfoldable pub decide : View → List ℕ → Decision
+decide v b = decisionOf v (headerOf b) (judged v b)
+
+-- a call decided so, and wrote the reply from the front
+pub record Did (d : Decision) (r : Decided) (before after : List ℕ) : Type 0 where
+  pub effect : r .effect ≡ d .effect
+  pub link : r .link ≡ d .link
+  pub reply : Wrote before after 0 (r .len) (d .reply)
