@@ -27,24 +27,25 @@ use Rattle.property.specs.declared.row.Scope.the-variants as scope
 use Rattle.property.specs.declared.row.Row.{Row}
 use Rattle.device.specs.State.{isText, portsIn, holds, distinct}
 use Rattle.device.specs.declared.state.Link.{Link}
-use Rattle.engine.specs.declared.view.View.{View}
-use Rattle.engine.specs.declared.view.Effect.{Effect}
-use Rattle.engine.specs.declared.view.Effect.the-variants.{None, Reset, Powered}
-use Rattle.engine.specs.declared.perform.Outcome.{Outcome}
-use Rattle.engine.specs.declared.perform.Outcome.the-variants.{Done, Refused}
-use Rattle.engine.specs.declared.perform.Performed.{Performed}
-use Rattle.engine.specs.declared.set.Value.{Value}
-use Rattle.engine.specs.declared.set.Value.the-variants.{Good, Bad}
-use Rattle.engine.specs.declared.verdict.Verdict.{Verdict}
-use Rattle.engine.specs.declared.verdict.Verdict.the-variants as verdict
-use Rattle.engine.specs.View.{after}
-use Rattle.engine.specs.Verdict.{commandOf, byRow, byProperty, byCommand, verdict as verdictOf}
-use Rattle.engine.specs.Perform.{getWith, valueIn, conflicts, numberTo, setNumber, powerTo, setPower, setName, setPorts, setKind, insertPort, portsHeld, removePort, perform}
-use Rattle.engine.specs.Value.{valueOf}
-use Rattle.engine.specs.Decide.{headerOf, replyCommand, content, replied, replying, concluded, reached, judgedBy, judged, stated, decisionOf, decide}
+use Rattle.command.specs.declared.view.View.{View}
+use Rattle.command.specs.declared.view.Effect.{Effect}
+use Rattle.command.specs.declared.view.Effect.the-variants.{None, Reset, Powered}
+use Rattle.command.specs.declared.perform.Outcome.{Outcome}
+use Rattle.command.specs.declared.perform.Outcome.the-variants.{Done, Refused}
+use Rattle.command.specs.declared.perform.Performed.{Performed}
+use Rattle.command.specs.declared.set.Value.{Value}
+use Rattle.command.specs.declared.set.Value.the-variants.{Good, Bad}
+use Rattle.command.specs.declared.verdict.Verdict.{Verdict}
+use Rattle.command.specs.declared.verdict.Verdict.the-variants as verdict
+use Rattle.command.specs.View.{after}
+use Rattle.command.specs.Verdict.{commandOf, byRow, byProperty, byCommand, verdict as verdictOf}
+use Rattle.command.specs.Perform.{getWith, valueIn, conflicts, numberTo, setNumber, powerTo, setPower, setName, setPorts, setKind, insertPort, portsHeld, removePort, perform}
+use Rattle.command.specs.Value.{valueOf}
+use Rattle.engine.specs.Decide.{replying, concluded, reached, judgedBy, judged, stated, decisionOf, decide}
+use Rattle.command.specs.Reply.{headerOf, replyCommand, content, replied}
 use Rattle.engine.specs.Merged.{isReset, isPower, effectOf}
-use Rattle.engine.proofs.LawsNumbers.{power-most}
-use Rattle.engine.proofs.LawsVerdict.{verdict-reach, verdict-reset}
+use Rattle.command.proofs.LawsNumbers.{power-most}
+use Rattle.command.proofs.LawsVerdict.{verdict-reach, verdict-reset}
 
 -- ---- the octets of a reset and of a power setting give their verdicts
 

@@ -21,18 +21,19 @@ use Rattle.property.proofs.TableRule.{slot-below}
 use Rattle.device.specs.Rules.{settingsRule, linkRule}
 use Rattle.device.specs.declared.state.Link.{Link}
 use Rattle.device.proofs.StateRules.{LinkFacts}
-use Rattle.engine.specs.declared.view.View.{View}
-use Rattle.engine.specs.declared.perform.Outcome.{Outcome}
-use Rattle.engine.specs.declared.perform.Outcome.the-variants.{Done, Refused}
-use Rattle.engine.specs.declared.verdict.Verdict.{Verdict}
-use Rattle.engine.specs.declared.verdict.Verdict.the-variants as verdict
-use Rattle.engine.specs.View.{after}
-use Rattle.engine.specs.Verdict.{commandOf, byRow, byProperty, byCommand, verdict as verdictOf}
-use Rattle.engine.specs.Perform.{perform}
-use Rattle.engine.specs.Decide.{headerOf, replied, Judged, stopped, noop, reset, success, replying, concluded, reached, judgedBy, judged}
-use Rattle.engine.proofs.LawsKept.{SmallStatus, perform-kept}
-use Rattle.engine.proofs.LawsReplies.{content-size, replied-size}
-use Rattle.engine.proofs.LawsVerdict.{verdict-reach}
+use Rattle.command.specs.declared.view.View.{View}
+use Rattle.command.specs.declared.perform.Outcome.{Outcome}
+use Rattle.command.specs.declared.perform.Outcome.the-variants.{Done, Refused}
+use Rattle.command.specs.declared.verdict.Verdict.{Verdict}
+use Rattle.command.specs.declared.verdict.Verdict.the-variants as verdict
+use Rattle.command.specs.View.{after}
+use Rattle.command.specs.Verdict.{commandOf, byRow, byProperty, byCommand, verdict as verdictOf}
+use Rattle.command.specs.Perform.{perform}
+use Rattle.engine.specs.Decide.{Judged, stopped, noop, reset, success, replying, concluded, reached, judgedBy, judged}
+use Rattle.command.specs.Reply.{headerOf, replied}
+use Rattle.command.proofs.LawsKept.{SmallStatus, perform-kept}
+use Rattle.command.proofs.LawsReplies.{content-size, replied-size}
+use Rattle.command.proofs.LawsVerdict.{verdict-reach}
 
 -- ---- the statuses of steps 2 to 5
 

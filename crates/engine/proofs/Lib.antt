@@ -1,14 +1,7 @@
-pub mod LawsVerdict
-pub mod LawsNumbers
-pub mod LawsItems
-pub mod StackAndInterface
-pub mod LawsKept
-pub mod LawsReplies
 pub mod LawsJudged
 pub mod EffectsByOctets
 pub mod Separation
 pub mod RulesKept
 pub mod ReplyBounds
 pub mod Refusals
-pub mod Scopes
 pub mod MarkedBodies

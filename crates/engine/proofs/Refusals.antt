@@ -8,10 +8,11 @@ use lib.ListN.{set}
 use Rattle.device.specs.Rules.{settingsRule, linkRule}
 use Rattle.device.specs.declared.state.Link.{Link}
 use Rattle.device.specs.declared.state.Device.{Device}
-use Rattle.engine.specs.declared.view.View.{View}
-use Rattle.engine.specs.declared.view.Effect.{Effect}
-use Rattle.engine.specs.View.{viewOf}
-use Rattle.engine.specs.Decide.{headerOf, statusReply, withStatus, Judged, stopped, noop, reset, success, judged, stated, decisionOf, decide}
+use Rattle.command.specs.declared.view.View.{View}
+use Rattle.command.specs.declared.view.Effect.{Effect}
+use Rattle.command.specs.View.{viewOf}
+use Rattle.engine.specs.Decide.{withStatus, Judged, stopped, noop, reset, success, judged, stated, decisionOf, decide}
+use Rattle.command.specs.Reply.{headerOf, statusReply}
 use Rattle.engine.specs.Engine.{linkOf, isSetUp, affect, Answer, settled, engine}
 use Rattle.engine.proofs.LawsJudged.{Sound, judged-sound}
 

@@ -10,9 +10,10 @@ use Rattle.octets.proofs.LawsTests.{chosen}
 use Rattle.device.specs.Rules.{settingsRule, linkRule, rules}
 use Rattle.device.specs.declared.state.Device.{Device}
 use Rattle.device.proofs.StateRules.{settings-of, link-at}
-use Rattle.engine.specs.declared.view.View.{View}
-use Rattle.engine.specs.View.{viewOf}
-use Rattle.engine.specs.Decide.{headerOf, statusReply, Judged, stopped, noop, reset, success, judged, stated, decisionOf, decide}
+use Rattle.command.specs.declared.view.View.{View}
+use Rattle.command.specs.View.{viewOf}
+use Rattle.engine.specs.Decide.{Judged, stopped, noop, reset, success, judged, stated, decisionOf, decide}
+use Rattle.command.specs.Reply.{headerOf, statusReply}
 use Rattle.engine.specs.Engine.{linkOf, isSetUp, Answer, settled, engine}
 use Rattle.engine.proofs.LawsJudged.{Sound, judged-sound}
 

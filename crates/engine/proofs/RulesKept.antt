@@ -16,11 +16,12 @@ use Rattle.device.specs.declared.state.Link.{Link}
 use Rattle.device.specs.declared.state.Device.{Device}
 use Rattle.device.proofs.SetupKeepsRules.{fresh-keeps}
 use Rattle.device.proofs.StateRules.{LinkFacts, link-told, link-from, settings-of, power-of, four, few, kept, link-at, rules-from}
-use Rattle.engine.specs.declared.view.View.{View}
-use Rattle.engine.specs.declared.view.Effect.{Effect}
-use Rattle.engine.specs.declared.view.Effect.the-variants.{None, Reset, Powered}
-use Rattle.engine.specs.View.{viewOf}
-use Rattle.engine.specs.Decide.{headerOf, withStatus, Judged, stopped, noop, reset, success, judged, stated, decisionOf, decide}
+use Rattle.command.specs.declared.view.View.{View}
+use Rattle.command.specs.declared.view.Effect.{Effect}
+use Rattle.command.specs.declared.view.Effect.the-variants.{None, Reset, Powered}
+use Rattle.command.specs.View.{viewOf}
+use Rattle.engine.specs.Decide.{withStatus, Judged, stopped, noop, reset, success, judged, stated, decisionOf, decide}
+use Rattle.command.specs.Reply.{headerOf}
 use Rattle.engine.specs.Engine.{linkOf, isSetUp, affect, engine}
 use Rattle.engine.specs.Merged.{deviceStep, deviceAfter, isReset, isPower, effectOf}
 use Rattle.engine.proofs.LawsJudged.{Sound, judged-sound}

@@ -19,11 +19,12 @@ use Rattle.device.specs.Rules.{rules}
 use Rattle.device.specs.declared.state.Link.{Link}
 use Rattle.device.specs.declared.state.Device.{Device}
 use Rattle.device.proofs.StateRules.{four}
-use Rattle.engine.specs.declared.view.View.{View}
-use Rattle.engine.specs.declared.view.Effect.{Effect}
-use Rattle.engine.specs.declared.view.Effect.the-variants.{None, Reset, Powered}
-use Rattle.engine.specs.View.{viewOf}
-use Rattle.engine.specs.Decide.{headerOf, decide}
+use Rattle.command.specs.declared.view.View.{View}
+use Rattle.command.specs.declared.view.Effect.{Effect}
+use Rattle.command.specs.declared.view.Effect.the-variants.{None, Reset, Powered}
+use Rattle.command.specs.View.{viewOf}
+use Rattle.engine.specs.Decide.{decide}
+use Rattle.command.specs.Reply.{headerOf}
 use Rattle.engine.specs.Engine.{linkOf, isSetUp, affect, settled, engine}
 use Rattle.engine.specs.Merged.{deviceStep, deviceAfter, isReset, effectOf, Item, whole, only, effectItem, itemOf, merged, isAnswered, repliesOn, moved, viewStep, viewAfter, replyTo, itemReplies, viewReplies}
 use Rattle.engine.proofs.EffectsByOctets.{decide-effect}

@@ -1,56 +1,26 @@
 -- A body on a link that is set up (01, Commands).
 use Prim.Native.Nat.{ℕ}
 use mathlib.Core.Bool.{cond}
-use mathlib.Core.List.{List, [], _∷_, _++_}
+use mathlib.Core.List.{List}
 use mathlib.Core.Path.{_≡_}
 use lib.Dec.{ltb}
-use lib.ListN.{length, getD, drop}
+use lib.ListN.{length, drop}
 use Rattle.octets.specs.Writing.{Wrote}
-use Rattle.packed.specs.Packed.{packed}
 use Rattle.property.specs.declared.row.Command.{Command}
-use Rattle.property.specs.declared.row.Command.the-variants.{Get, Set, Insert, Remove}
-use Rattle.property.specs.declared.row.Kind.{Kind}
 use Rattle.property.specs.declared.row.Row.{Row}
 use Rattle.device.specs.declared.state.Link.{Link}
-use Rattle.engine.specs.declared.view.View.{View}
-use Rattle.engine.specs.declared.view.Effect.{Effect}
-use Rattle.engine.specs.declared.view.Effect.the-variants as effect
-use Rattle.engine.specs.declared.perform.Outcome.{Outcome}
-use Rattle.engine.specs.declared.perform.Outcome.the-variants.{Done, Refused}
-use Rattle.engine.specs.declared.verdict.Verdict.{Verdict}
-use Rattle.engine.specs.declared.verdict.Verdict.the-variants as verdict
+use Rattle.command.specs.declared.view.View.{View}
+use Rattle.command.specs.declared.view.Effect.{Effect}
+use Rattle.command.specs.declared.view.Effect.the-variants as effect
+use Rattle.command.specs.declared.perform.Outcome.{Outcome}
+use Rattle.command.specs.declared.perform.Outcome.the-variants.{Done, Refused}
+use Rattle.command.specs.declared.verdict.Verdict.{Verdict}
+use Rattle.command.specs.declared.verdict.Verdict.the-variants as verdict
 use Rattle.engine.specs.declared.decide.Decided.{Decided}
-use Rattle.engine.specs.View.{after}
-use Rattle.engine.specs.Verdict.{verdict as verdictOf}
-use Rattle.engine.specs.Perform.{perform}
-use Rattle.engine.specs.Value.{valueOf}
-
--- "Header: two bits 10, two bits link, four bits transaction"
-abbrev pub headerOf : List ℕ → ℕ
-headerOf b = getD b 0 0
-
--- ---- replies
-
--- "A refusal is command 6, property 0, status"
-unfoldable pub statusReply : ℕ → ℕ → List ℕ
-statusReply h s = h ∷ 6 ∷ 0 ∷ s ∷ []
-
--- "GET (2) and SET (3) reply command 6 with number and value held; INSERT (4) replies 7 and REMOVE (5) replies 8 with the item"
-unfoldable pub replyCommand : Command → ℕ
-replyCommand Get = 6
-replyCommand Set = 6
-replyCommand Insert = 7
-replyCommand Remove = 8
-
-unfoldable pub content : View → Command → Kind → List ℕ → List ℕ
-content v Get k p = valueOf v k
-content v Set k p = valueOf v k
-content v Insert k p = p
-content v Remove k p = p
-
--- "A reply repeats the request's header"
-unfoldable pub replied : View → ℕ → Command → Row → List ℕ → List ℕ
-replied v h c r p = h ∷ replyCommand c ∷ (packed (r .id) ++ content v c (r .kind) p)
+use Rattle.command.specs.View.{after}
+use Rattle.command.specs.Verdict.{verdict as verdictOf}
+use Rattle.command.specs.Perform.{perform}
+use Rattle.command.specs.Reply.{headerOf, statusReply, replied}
 
 -- ---- what a body comes to
 

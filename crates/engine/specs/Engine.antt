@@ -8,10 +8,11 @@ use Rattle.device.specs.State.{fresh}
 use Rattle.device.specs.declared.state.Link.{Link}
 use Rattle.device.specs.declared.state.Settings.{Settings}
 use Rattle.device.specs.declared.state.Device.{Device}
-use Rattle.engine.specs.declared.view.Effect.{Effect}
-use Rattle.engine.specs.declared.view.Effect.the-variants.{None, Reset, Powered}
-use Rattle.engine.specs.View.{viewOf}
-use Rattle.engine.specs.Decide.{headerOf, statusReply, Decision, decide}
+use Rattle.command.specs.declared.view.Effect.{Effect}
+use Rattle.command.specs.declared.view.Effect.the-variants.{None, Reset, Powered}
+use Rattle.command.specs.View.{viewOf}
+use Rattle.engine.specs.Decide.{Decision, decide}
+use Rattle.command.specs.Reply.{headerOf, statusReply}
 
 -- "two bits 10, two bits link, four bits transaction"
 unfoldable pub linkOf : List ℕ → ℕ

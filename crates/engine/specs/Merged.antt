@@ -9,10 +9,11 @@ use Rattle.device.specs.State.{freshLink}
 use Rattle.device.specs.declared.state.Settings.{Settings}
 use Rattle.device.specs.declared.state.Device.{Device}
 use Rattle.device.specs.declared.state.Link.{Link}
-use Rattle.engine.specs.declared.view.View.{View}
-use Rattle.engine.specs.declared.view.Effect.{Effect}
-use Rattle.engine.specs.declared.view.Effect.the-variants.{None, Reset, Powered}
-use Rattle.engine.specs.Decide.{headerOf, statusReply, decide}
+use Rattle.command.specs.declared.view.View.{View}
+use Rattle.command.specs.declared.view.Effect.{Effect}
+use Rattle.command.specs.declared.view.Effect.the-variants.{None, Reset, Powered}
+use Rattle.engine.specs.Decide.{decide}
+use Rattle.command.specs.Reply.{headerOf, statusReply}
 use Rattle.engine.specs.Engine.{linkOf, isSetUp, engine}
 
 -- ---- bodies one after the other

@@ -1,8 +1,8 @@
 // One body on the box (01, Commands).
 use crate::decide::decide;
-use crate::reply::write_status;
-use crate::view::Effect;
-use crate::view::View;
+use command::Effect;
+use command::View;
+use command::write_status;
 use device::Device;
 use device::Link;
 use property::status;
@@ -12,7 +12,7 @@ ghost use Prim.Native.Nat.{_≤_, _<_, _/_};
 ghost use lib.ListN.{length};
 ghost use Rattle.octets.specs.Writing.{Wrote};
 ghost use Rattle.device.specs.Rules.{rules};
-ghost use Rattle.engine.specs.Decide.{headerOf};
+ghost use Rattle.command.specs.Reply.{headerOf};
 ghost use Rattle.engine.specs.Engine.{affect, engine};
 
 // The box after a body, and how many octets its reply has, from the front of the space lent for it.

@@ -1,12 +1,12 @@
 // A body on a link that is set up. It sees that link and what all links share, and no other link.
-use crate::perform::Outcome;
-use crate::perform::perform;
-use crate::reply::write_reply;
-use crate::reply::write_status;
-use crate::verdict::Verdict;
-use crate::verdict::verdict_of;
-use crate::view::Effect;
-use crate::view::View;
+use command::Effect;
+use command::Outcome;
+use command::Verdict;
+use command::View;
+use command::perform_on;
+use command::verdict_of;
+use command::write_reply;
+use command::write_status;
 use device::Device;
 use device::Link;
 use property::Command;
@@ -18,8 +18,9 @@ ghost use Prim.Native.Nat.{_≤_, _<_};
 ghost use lib.ListN.{length};
 ghost use Rattle.property.specs.Rule.{rowRule};
 ghost use Rattle.device.specs.Rules.{settingsRule, linkRule};
-ghost use Rattle.engine.specs.Decide.{Did, stated, decisionOf, replying, reached, decide, content, replied};
-ghost use Rattle.engine.specs.View.{after};
+ghost use Rattle.engine.specs.Decide.{Did, stated, decisionOf, replying, reached, decide};
+ghost use Rattle.command.specs.Reply.{content, replied};
+ghost use Rattle.command.specs.View.{after};
 
 // The effect on the whole box, the link, and how many octets the reply has.
 pub struct Decided {
@@ -77,7 +78,7 @@ fn reach(
     requires { ⌜ (settingsRule (view .settings) ≡ true) × (linkRule (view .link) ≡ true) × (rowRule row ≡ true) × (61 ≤ length (now out)) ⌝ }
     ensures { λ r. ⌜ Did (decisionOf view header (reached view header command row (now (payload .entry)))) r (now (out .entry)) (now (out .exit)) ⌝ }
 {
-    let performed = perform(view.link, command, row, payload);
+    let performed = perform_on(view.link, command, row, payload);
     let outcome = performed.outcome;
     let link = performed.link;
     match outcome {

@@ -4,7 +4,7 @@ use native.Mathlib.Omega.{arith}
 use borrow.Author.Needs.{needs}
 use borrow.Author.Tests.{le-ltb}
 use Rattle.engine.specs.Decide.{replying, decisionOf}
-use Rattle.engine.proofs.LawsReplies.{replied-size}
+use Rattle.command.proofs.LawsReplies.{replied-size}
 use Rattle.engine.proofs.decide.conclude.Statement.{statement}
 use Rattle.engine.proofs.decide.conclude.Tie as tie
 

@@ -7,7 +7,7 @@ use borrow.Author.Needs.{needs}
 use lib.ListN.{length, take, drop, length-drop}
 use lib.Seq.{take-all}
 use Rattle.engine.specs.Decide.{decisionOf, judgedBy, judged, decide}
-use Rattle.engine.proofs.LawsVerdict.{verdict-reach, payload-start}
+use Rattle.command.proofs.LawsVerdict.{verdict-reach, payload-start}
 use Rattle.engine.proofs.decide.decide.Statement.{statement}
 use Rattle.engine.proofs.decide.decide.Tie as tie
 

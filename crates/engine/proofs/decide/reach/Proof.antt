@@ -3,8 +3,8 @@ use borrow.Author.Needs.{needs}
 use Rattle.property.proofs.TableRule.{slot-below}
 use Rattle.device.proofs.StateRules.{link-from}
 use Rattle.engine.specs.Decide.{concluded, reached, decisionOf}
-use Rattle.engine.proofs.LawsKept.{perform-kept}
-use Rattle.engine.proofs.LawsReplies.{content-size}
+use Rattle.command.proofs.LawsKept.{perform-kept}
+use Rattle.command.proofs.LawsReplies.{content-size}
 use Rattle.engine.proofs.decide.reach.Statement.{statement}
 use Rattle.engine.proofs.decide.reach.Tie as tie
 
@@ -15,9 +15,9 @@ conclude-requires c κs =
     let a = s .args in
     let rule = s .pre .2 in
     let kept = perform-kept (a .view .link) (s .pre .1) (a .command) (a .row .kind) (a .payload .now) (λ slot k. slot-below (a .row) slot k rule) in
-    let done = rw (q .perform .ensures) at (c .before .before .outcome2 .given .1) in
+    let done = rw (q .perform-on .ensures) at (c .before .before .outcome2 .given .1) in
     let few = content-size (a .view) (a .command) (a .row) (a .payload .now) _ (s .pre .0) (s .pre .1) rule done in
-    rw (q .perform .ensures) ((s .pre .0, link-from _ (kept .facts), rule), (search needs, few))
+    rw (q .perform-on .ensures) ((s .pre .0, link-from _ (kept .facts), rule), (search needs, few))
 
 pub reach-spec : {M : Type 1} → statement M
 unfolding reached concluded decisionOf
@@ -31,7 +31,7 @@ reach-spec =
     conclude-requires
     (λ c. search needs)
     (λ c. let d = c .before .before .before .before .before in
-    rw (← d .before .before .before .perform .ensures, d .outcome .given .1) (c .before .before .state .ensures))
+    rw (← d .before .before .before .perform-on .ensures, d .outcome .given .1) (c .before .before .state .ensures))
     (λ c. search needs)
     (λ c. let d = c .before .before .before .before .before in
-    rw (← d .before .before .before .perform .ensures, d .outcome2 .given .1) (c .before .before .conclude .ensures)))
+    rw (← d .before .before .before .perform-on .ensures, d .outcome2 .given .1) (c .before .before .conclude .ensures)))

@@ -1,0 +1,7 @@
+pub mod LawsVerdict
+pub mod LawsNumbers
+pub mod LawsItems
+pub mod StackAndInterface
+pub mod LawsKept
+pub mod LawsReplies
+pub mod Scopes

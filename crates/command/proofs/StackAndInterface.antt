@@ -1,0 +1,65 @@
+-- PROMISE: "66 to 1 while 65 is 0, and 65 to 0 while 66 is 1, are 4": under the state rules these two cases are exactly those in which the
+-- changed numbers would have the stack up without the interface, which is the one test that the code makes. Assumes nothing.
+use mathlib.Core.Path.{_≡_, refl, sym, ap, _∙_}
+use mathlib.Core.Bool.{Bool, true, false, cond, not, _&&_, _||_}
+use mathlib.Core.List.{List}
+use Prim.Native.Nat.{ℕ, zero, suc, _<_, _≤_}
+use native.Mathlib.Omega.{arith}
+use borrow.Author.Tests.{eqb-true, eqb-false, leb-true}
+use lib.Dec.{eqb, ltb, leb}
+use lib.ListN.{length, getD, set}
+use lib.Seq.{getD-set-same, getD-set-other}
+use Rattle.octets.proofs.LawsScanning.{all-at}
+use Rattle.octets.proofs.LawsTests.{by-test, impossible}
+use Rattle.property.specs.Numbers.{bool, numbers, numberAt, interfaceUp, stackUp, within}
+use Rattle.device.specs.Rules.{inRange, stackRule}
+use Rattle.command.specs.Perform.{conflicts}
+
+bool-small : (x : ℕ) → within bool x ≡ true → x ≤ 1
+unfolding within
+bool-small x t =
+    by-test (ltb 255 x) (λ e. let t' = rw e at t in impossible cc)
+    (λ e. by-test (ltb x 0) (λ f. let t' = rw (e, f) at t in impossible cc) (λ f. leb-true x 1 (rw (e, f) at t)))
+
+-- of two bools, the stack's and the interface's
+up-without : (stack interface : ℕ) → stack ≤ 1 → interface ≤ 1 → eqb stack 1 && eqb interface 0 ≡ not (leb stack interface)
+up-without zero zero p q = refl
+up-without zero (suc zero) p q = refl
+up-without (suc zero) zero p q = refl
+up-without (suc zero) (suc zero) p q = refl
+up-without zero (suc (suc n)) p q = absurd (omega arith)
+up-without (suc zero) (suc (suc n)) p q = absurd (omega arith)
+up-without (suc (suc n)) interface p q = absurd (omega arith)
+
+down-under : (stack interface : ℕ) → stack ≤ 1 → interface ≤ 1 → eqb interface 0 && eqb stack 1 ≡ not (leb stack interface)
+down-under zero zero p q = refl
+down-under zero (suc zero) p q = refl
+down-under (suc zero) zero p q = refl
+down-under (suc zero) (suc zero) p q = refl
+down-under zero (suc (suc n)) p q = absurd (omega arith)
+down-under (suc zero) (suc (suc n)) p q = absurd (omega arith)
+down-under (suc (suc n)) interface p q = absurd (omega arith)
+
+module _ (held : List ℕ) (nine : length held ≡ 9) (range : inRange held ≡ true) (stack : stackRule held ≡ true) where
+  stack-small : getD held stackUp 0 ≤ 1
+  stack-small = unfold inRange numbers in bool-small _ (all-at 9 (λ slot. within (numberAt slot) (getD held slot 0)) range stackUp (omega arith))
+
+  interface-small : getD held interfaceUp 0 ≤ 1
+  interface-small = unfold inRange numbers in bool-small _ (all-at 9 (λ slot. within (numberAt slot) (getD held slot 0)) range interfaceUp (omega arith))
+
+  pub conflict-test : (slot v : ℕ) → within (numberAt slot) v ≡ true → conflicts held slot v ≡ not (stackRule (set held slot v))
+  unfolding conflicts stackRule numbers
+  conflict-test slot v w =
+      by-test (eqb slot stackUp)
+      (λ e. let five : slot ≡ stackUp = eqb-true slot stackUp e in
+      rw (five, getD-set-same held stackUp v 0 (omega arith), getD-set-other held stackUp interfaceUp v 0 (λ q. omega arith))
+      (either (eqb v 1 && eqb (getD held interfaceUp 0) 0) ∙ up-without v (getD held interfaceUp 0) (bool-small v (rw five at w)) interface-small))
+      (λ e. by-test (eqb slot interfaceUp)
+      (λ f. let four : slot ≡ interfaceUp = eqb-true slot interfaceUp f in
+      rw (four, getD-set-same held interfaceUp v 0 (omega arith), getD-set-other held interfaceUp stackUp v 0 (λ q. omega arith))
+      (down-under (getD held stackUp 0) v stack-small (bool-small v (rw four at w))))
+      (λ f. rw (e, f, getD-set-other held slot stackUp v 0 (λ q. eqb-false slot stackUp e (sym q)), getD-set-other held slot interfaceUp v 0 (λ q. eqb-false slot interfaceUp f (sym q)), stack)))
+    where
+      either : (t : Bool) → t || false ≡ t
+      either true = refl
+      either false = refl
