@@ -80,7 +80,8 @@ ports-snoc [] (x ∷ y ∷ z ∷ zs) e two = absurd (omega arith)
 ports-snoc (x ∷ []) p e two = absurd (omega arith)
 ports-snoc (x ∷ y ∷ xs) p e two = ap (λ ps. (x + 256 * y) ∷ ps) (ports-snoc xs p (omega arith) two)
 
-pub ports-without : (i : ℕ) (xs : List ℕ) → 2 * i + 2 ≤ length xs → portsIn (without (2 * i) xs) ≡ take i (portsIn xs) ++ drop (suc i) (portsIn xs)
+pub ports-without : (i : ℕ) (xs : List ℕ) → 2 * i + 2 ≤ length xs
+    → portsIn (without (2 * i) xs) ≡ take i (portsIn xs) ++ drop (suc i) (portsIn xs)
 unfolding without portsIn
 ports-without i [] h = absurd (omega arith)
 ports-without i (x ∷ []) h = absurd (omega arith)

@@ -56,7 +56,8 @@ ports-held : (xs : List ℕ) → length xs ≤ 16 → length xs % 2 ≡ 0 → di
 unfolding portsRule padded
 ports-held xs few even d = rw (pad-length 16 xs few, le-leb (length xs) 16 few, pad-zeros 16 xs, eq-eqb _ _ even, pad-front 16 xs, d)
 
-sized-with : (l : Link) (xs : List ℕ) → length xs ≤ 16 → sized l ≡ true → (sized (withName l (heldFrom xs)) ≡ true) × (sized (withPorts l (heldFrom xs)) ≡ true)
+sized-with : (l : Link) (xs : List ℕ) → length xs ≤ 16 → sized l ≡ true
+    → (sized (withName l (heldFrom xs)) ≡ true) × (sized (withPorts l (heldFrom xs)) ≡ true)
 unfolding sized
 sized-with l xs few t =
     let rest = and-r (eqb (length (l .numbers)) 9) _ t in
@@ -71,7 +72,9 @@ bad-small : (n : Numeric) (p : List ℕ) (s : ℕ) → leb (n .outside) 127 ≡ 
 unfolding valueIn
 bad-small n p s h e =
     by-test (eqb (length p) (n .width))
-    (λ t. by-test (within n (le p)) (λ u. let e' = rw (t, u) at e in impossible cc) (λ u. let e' = rw (t, u) at e in let same : n .outside ≡ s = cc in rw (← same) h))
+    (λ t. by-test (within n (le p))
+    (λ u. let e' = rw (t, u) at e in impossible cc)
+    (λ u. let e' = rw (t, u) at e in let same : n .outside ≡ s = cc in rw (← same) h))
     (λ t. let e' = rw t at e in let same : 9 ≡ s = cc in rw (← same))
 
 sized-numbers : (l : Link) (slot v : ℕ) → sized l ≡ true → sized (withNumbers l (set (l .numbers) slot v)) ≡ true
@@ -156,7 +159,8 @@ module _ (l : Link) (t : linkRule l ≡ true) where
       (λ h. chosen (Kept l) (ltb (length (portsIn xs)) 8)
       (λ g. let long = length-append xs p in
       let few : length (xs ++ p) ≤ 16 = omega (arith, ports-length xs, ltb-true (length (portsIn xs)) 8 g, ports-even l t) in
-      kept-ports (xs ++ p) few (omega (arith, ports-even l t)) (rw (ports-snoc xs p (ports-even l t) two) (distinct-snoc (le p) (portsIn xs) (ports-distinct l t) h)))
+      let apart : distinct (portsIn (xs ++ p)) ≡ true = rw (ports-snoc xs p (ports-even l t) two) (distinct-snoc (le p) (portsIn xs) (ports-distinct l t) h) in
+      kept-ports (xs ++ p) few (omega (arith, ports-even l t)) apart)
       (λ _. kept-refused 11 refl)))
       (λ _. kept-refused 9 refl)
 

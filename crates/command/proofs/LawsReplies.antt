@@ -41,7 +41,9 @@ module _ (v : View) (s : settingsRule (v .settings) ≡ true) where
   unfolding fixedValue
   fixed-size LastStatus = omega (arith, packed-size (v .link .status))
   fixed-size ProtocolVersion = omega arith
-  fixed-size VersionText = let t = settings-told (v .settings) s .text in omega (arith, length-append (textOf (v .settings .text)) (0 ∷ []), t .most, t .counted)
+  fixed-size VersionText =
+      let t = settings-told (v .settings) s .text in
+      omega (arith, length-append (textOf (v .settings .text)) (0 ∷ []), t .most, t .counted)
   fixed-size InterfaceType = omega arith
   fixed-size Vendor = omega (arith, packed-size (v .settings .vendor))
   fixed-size Capabilities = omega arith
@@ -63,8 +65,9 @@ by-nine l true x e h = refl
 by-nine l false x e h = impossible cc
 
 -- the value held after a command that was performed, or its item
-pub content-size : (v : View) (c : Command) (r : Row) (p : List ℕ) (e : Effect) → settingsRule (v .settings) ≡ true → linkRule (v .link) ≡ true → rowRule r ≡ true
-    → perform (v .link) c (r .kind) p .outcome ≡ Done e → length (content (after v e (perform (v .link) c (r .kind) p .link)) c (r .kind) p) ≤ 33
+pub content-size : (v : View) (c : Command) (r : Row) (p : List ℕ) (e : Effect)
+    → settingsRule (v .settings) ≡ true → linkRule (v .link) ≡ true → rowRule r ≡ true → perform (v .link) c (r .kind) p .outcome ≡ Done e
+    → length (content (after v e (perform (v .link) c (r .kind) p .link)) c (r .kind) p) ≤ 33
 unfolding content perform insertPort removePort
 content-size v c r p e s l t h = by c h
   where
@@ -73,7 +76,8 @@ content-size v c r p e s l t h = by c h
         value-size (after v e (perform (v .link) c (r .kind) p .link)) s
         (link-from _ (perform-kept (v .link) l c (r .kind) p (λ slot k. slot-below r slot k t) .facts)) (r .kind) (λ slot k. slot-below r slot k t)
 
-    by : (c : Command) → perform (v .link) c (r .kind) p .outcome ≡ Done e → length (content (after v e (perform (v .link) c (r .kind) p .link)) c (r .kind) p) ≤ 33
+    by : (c : Command) → perform (v .link) c (r .kind) p .outcome ≡ Done e
+        → length (content (after v e (perform (v .link) c (r .kind) p .link)) c (r .kind) p) ≤ 33
     by Get h = unfold content in after-size Get
     by Set h = unfold content in after-size Set
     by Insert h = unfold content perform insertPort in omega (arith, eqb-true (length p) 2 (by-nine (v .link) (eqb (length p) 2) _ e h))

@@ -34,7 +34,8 @@ pub record Reached (b : List ℕ) (c : Command) (r : Row) (start : ℕ) : Type 0
   pub allowed : allows r c ≡ true
   pub rule : rowRule r ≡ true
 
-by-row : (d c : Command) (at start : ℕ) (f : Found) (r : Row) → byRow d at f ≡ Reach c r start → (f ≡ At r) × (d ≡ c) × (at ≡ start) × (allows r c ≡ true)
+by-row : (d c : Command) (at start : ℕ) (f : Found) (r : Row) → byRow d at f ≡ Reach c r start
+    → (f ≡ At r) × (d ≡ c) × (at ≡ start) × (allows r c ≡ true)
 unfolding byRow
 by-row d c at start Unknown r e = impossible cc
 by-row d c at start (At x) r e = by-test (allows x d) (λ t. let e' = rw t at e in (cc, cc, cc, cc)) (λ t. let e' = rw t at e in impossible cc)
@@ -52,7 +53,8 @@ by-property d c (Number id at) r start e =
     let f = from-found id (lookup id) r (lookup-asked id) (t .0) in
     (cc, t .1, t .3, f .0)
 
-by-command : (b : List ℕ) (q : Packed) (c : Command) (r : Row) (start : ℕ) → packedAt b 1 ≡ q → byCommand b q ≡ Reach c r start → Reached b c r start
+by-command : (b : List ℕ) (q : Packed) (c : Command) (r : Row) (start : ℕ)
+    → packedAt b 1 ≡ q → byCommand b q ≡ Reach c r start → Reached b c r start
 unfolding byCommand
 by-command b Unreadable c r start p e = impossible cc
 by-command b (Number n next) c r start p e =

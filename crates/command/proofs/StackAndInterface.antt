@@ -1,7 +1,7 @@
 -- PROMISE: "66 to 1 while 65 is 0, and 65 to 0 while 66 is 1, are 4": under the state rules these two cases are exactly those in which the
 -- changed numbers would have the stack up without the interface, which is the one test that the code makes. Assumes nothing.
 use mathlib.Core.Path.{_≡_, refl, sym, ap, _∙_}
-use mathlib.Core.Bool.{Bool, true, false, cond, not, _&&_, _||_}
+use mathlib.Core.Bool.{Bool, true, false, not, _&&_, _||_, and-comm}
 use mathlib.Core.List.{List}
 use Prim.Native.Nat.{ℕ, zero, suc, _<_, _≤_}
 use native.Mathlib.Omega.{arith}
@@ -31,15 +31,6 @@ up-without zero (suc (suc n)) p q = absurd (omega arith)
 up-without (suc zero) (suc (suc n)) p q = absurd (omega arith)
 up-without (suc (suc n)) interface p q = absurd (omega arith)
 
-down-under : (stack interface : ℕ) → stack ≤ 1 → interface ≤ 1 → eqb interface 0 && eqb stack 1 ≡ not (leb stack interface)
-down-under zero zero p q = refl
-down-under zero (suc zero) p q = refl
-down-under (suc zero) zero p q = refl
-down-under (suc zero) (suc zero) p q = refl
-down-under zero (suc (suc n)) p q = absurd (omega arith)
-down-under (suc zero) (suc (suc n)) p q = absurd (omega arith)
-down-under (suc (suc n)) interface p q = absurd (omega arith)
-
 module _ (held : List ℕ) (nine : length held ≡ 9) (range : inRange held ≡ true) (stack : stackRule held ≡ true) where
   stack-small : getD held stackUp 0 ≤ 1
   stack-small = unfold inRange numbers in bool-small _ (all-at 9 (λ slot. within (numberAt slot) (getD held slot 0)) range stackUp (omega arith))
@@ -57,8 +48,10 @@ module _ (held : List ℕ) (nine : length held ≡ 9) (range : inRange held ≡ 
       (λ e. by-test (eqb slot interfaceUp)
       (λ f. let four : slot ≡ interfaceUp = eqb-true slot interfaceUp f in
       rw (four, getD-set-same held interfaceUp v 0 (omega arith), getD-set-other held interfaceUp stackUp v 0 (λ q. omega arith))
-      (down-under (getD held stackUp 0) v stack-small (bool-small v (rw four at w))))
-      (λ f. rw (e, f, getD-set-other held slot stackUp v 0 (λ q. eqb-false slot stackUp e (sym q)), getD-set-other held slot interfaceUp v 0 (λ q. eqb-false slot interfaceUp f (sym q)), stack)))
+      (and-comm (eqb v 0) (eqb (getD held stackUp 0) 1) ∙ up-without (getD held stackUp 0) v stack-small (bool-small v (rw four at w))))
+      (λ f. let same = getD-set-other held slot stackUp v 0 (λ q. eqb-false slot stackUp e (sym q)) in
+      let other = getD-set-other held slot interfaceUp v 0 (λ q. eqb-false slot interfaceUp f (sym q)) in
+      rw (e, f, same, other, stack)))
     where
       either : (t : Bool) → t || false ≡ t
       either true = refl

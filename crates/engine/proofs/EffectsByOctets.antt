@@ -114,7 +114,9 @@ set-still l Name p h =
     (λ _. still-refused l 9)
 set-still l Ports p h =
     chosen Still (eqb (length p % 2) 0)
-    (λ _. chosen Still (distinct (portsIn p)) (λ _. chosen Still (ltb 8 (length (portsIn p))) (λ _. still-refused l 11) (λ _. still-done _)) (λ _. still-refused l 3))
+    (λ _. chosen Still (distinct (portsIn p))
+    (λ _. chosen Still (ltb 8 (length (portsIn p))) (λ _. still-refused l 11) (λ _. still-done _))
+    (λ _. still-refused l 3))
     (λ _. still-refused l 9)
 
 perform-still : (l : Link) (c : Command) (k : Kind) (p : List ℕ) → (c ≡ Set → k ≡ Power → ⊥) → Still (perform l c k p)
@@ -123,7 +125,8 @@ perform-still l Get k p h = chosen Still (eqb (length p) 0) (λ _. still-done l)
 perform-still l Set k p h = set-still l k p (h refl)
 perform-still l Insert k p h =
     chosen Still (eqb (length p) 2)
-    (λ _. chosen Still (holds (le p) (portsHeld l)) (λ _. still-refused l 19) (λ _. chosen Still (ltb (length (portsHeld l)) 8) (λ _. still-done _) (λ _. still-refused l 11)))
+    (λ _. chosen Still (holds (le p) (portsHeld l)) (λ _. still-refused l 19)
+    (λ _. chosen Still (ltb (length (portsHeld l)) 8) (λ _. still-done _) (λ _. still-refused l 11)))
     (λ _. still-refused l 9)
 perform-still l Remove k p h =
     chosen Still (eqb (length p) 2) (λ _. chosen Still (holds (le p) (portsHeld l)) (λ _. still-done _) (λ _. still-refused l 20)) (λ _. still-refused l 9)
@@ -173,7 +176,8 @@ accepted b r start x e k g =
     let at-two : t .next ≡ 2 = omega arith in
     let at-three : start ≡ 3 = omega arith in
     let told = good-value (drop start b) x g in
-    let value : getD b 3 0 ≡ x = ap (λ n. getD b n 0) (sym (add-zero 3)) ∙ sym (getD-drop 3 b 0 0) ∙ ap (λ n. getD (drop n b) 0 0) (sym at-three) ∙ sym (one-le (drop start b) (told .0)) ∙ told .1 in
+    let first : getD (drop start b) 0 0 ≡ x = sym (one-le (drop start b) (told .0)) ∙ told .1 in
+    let value : getD b 3 0 ≡ x = rw (at-three, getD-drop 3 b 0 0) at first in
     let four : length b ≡ 4 = omega (arith, length-drop start b, told .0) in
     let most : getD b 3 0 ≤ 4 = omega (arith, told .2) in
     both (eqb (length b) 4) _ (eq-eqb _ _ four)
@@ -191,10 +195,10 @@ power-effect v h x few =
 no-reset : (b : List ℕ) (w : Verdict) → verdictOf b ≡ w → (w ≡ verdict.Reset → ⊥) → isReset b ≡ false
 no-reset b w e n = by-test (isReset b) (λ t. absurd (n (sym e ∙ reset-verdict b t))) (λ t. t)
 
-no-power : (b : List ℕ) (w : Verdict) → verdictOf b ≡ w → ((h x : ℕ) → w ≡ verdict.Reach Set row7 3 → ⊥) → isPower b ≡ false
+no-power : (b : List ℕ) (w : Verdict) → verdictOf b ≡ w → (w ≡ verdict.Reach Set row7 3 → ⊥) → isPower b ≡ false
 no-power b w e n =
     by-test (isPower b)
-    (λ t. let f = from-power b t in absurd (n (f .0) (f .1) (sym e ∙ ap verdictOf (f .2) ∙ power-verdict (f .0) (f .1))))
+    (λ t. let f = from-power b t in absurd (n (sym e ∙ ap verdictOf (f .2) ∙ power-verdict (f .0) (f .1))))
     (λ t. t)
 
 none : (b : List ℕ) → isReset b ≡ false → isPower b ≡ false → effectOf b ≡ None
@@ -205,7 +209,8 @@ a-reset : (b : List ℕ) → eqb (getD b 1 0) 1 ≡ true → effectOf b ≡ Rese
 unfolding effectOf isReset
 a-reset b t = rw t
 
-set-power : (v : View) (b : List ℕ) (r : Row) (start : ℕ) → verdictOf b ≡ verdict.Reach Set r start → r .kind ≡ Power → isPower b ≡ false
+set-power : (v : View) (b : List ℕ) (r : Row) (start : ℕ)
+    → verdictOf b ≡ verdict.Reach Set r start → r .kind ≡ Power → isPower b ≡ false
     → Still (perform (v .link) Set (r .kind) (drop start b))
 unfolding Still perform setKind setPower
 set-power v b r start e k n = rw k (by (valueIn powerState (drop start b)) refl)
@@ -214,7 +219,8 @@ set-power v b r start e k n = rw k (by (valueIn powerState (drop start b)) refl)
     by (Bad s) g = unfold powerTo in tt
     by (Good x) g = impossible (cc (accepted b r start x e k g))
 
-still-set : (v : View) (b : List ℕ) (r : Row) (start : ℕ) (k : Kind) → r .kind ≡ k → verdictOf b ≡ verdict.Reach Set r start → isPower b ≡ false
+still-set : (v : View) (b : List ℕ) (r : Row) (start : ℕ) (k : Kind)
+    → r .kind ≡ k → verdictOf b ≡ verdict.Reach Set r start → isPower b ≡ false
     → Still (perform (v .link) Set (r .kind) (drop start b))
 still-set v b r start (ReadOnly f) k e n = perform-still _ Set _ _ (λ c p. impossible cc)
 still-set v b r start Power k e n = set-power v b r start e k n
@@ -229,7 +235,8 @@ still-reach v b Set r start e n = still-set v b r start (r .kind) refl e n
 still-reach v b Insert r start e n = perform-still _ Insert _ _ (λ c p. impossible cc)
 still-reach v b Remove r start e n = perform-still _ Remove _ _ (λ c p. impossible cc)
 
-at-power : (v : View) (b : List ℕ) (c : Command) (r : Row) (start h x : ℕ) → verdictOf b ≡ verdict.Reach c r start → b ≡ h ∷ 3 ∷ 7 ∷ x ∷ [] → x ≤ 4
+at-power : (v : View) (b : List ℕ) (c : Command) (r : Row) (start h x : ℕ)
+    → verdictOf b ≡ verdict.Reach c r start → b ≡ h ∷ 3 ∷ 7 ∷ x ∷ [] → x ≤ 4
     → decisionOf v (headerOf b) (reached v (headerOf b) c r (drop start b)) .effect ≡ Powered x
 at-power v b c r start h x e o few =
     let same : verdict.Reach c r start ≡ verdict.Reach Set row7 3 = sym e ∙ ap verdictOf o ∙ power-verdict h x in
@@ -252,8 +259,8 @@ effect-reach v b c r start e =
 effect-by : (v : View) (b : List ℕ) (w : Verdict) → verdictOf b ≡ w → decisionOf v (headerOf b) (judgedBy v b w) .effect ≡ effectOf b
 unfolding judgedBy decisionOf stated
 effect-by v b (verdict.Refuse step s) e =
-    sym (none b (no-reset b _ e (λ q. impossible cc)) (no-power b _ e (λ h x q. impossible cc)))
-effect-by v b verdict.Noop e = sym (none b (no-reset b _ e (λ q. impossible cc)) (no-power b _ e (λ h x q. impossible cc)))
+    sym (none b (no-reset b _ e (λ q. impossible cc)) (no-power b _ e (λ q. impossible cc)))
+effect-by v b verdict.Noop e = sym (none b (no-reset b _ e (λ q. impossible cc)) (no-power b _ e (λ q. impossible cc)))
 effect-by v b verdict.Reset e = sym (a-reset b (eq-eqb _ _ (verdict-reset b e)))
 effect-by v b (verdict.Reach c r start) e = effect-reach v b c r start e
 

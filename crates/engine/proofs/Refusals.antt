@@ -32,10 +32,11 @@ module _ (d : Device) (b : List ℕ) (up : isSetUp (d .settings) b ≡ true) whe
   noop-status e = rw (up, e)
 
 -- a success other than NOOP and RESET leaves the last status that the link had
-pub success-status : (v : View) (b : List ℕ) (e : Effect) (l : Link) (reply : List ℕ) → settingsRule (v .settings) ≡ true → linkRule (v .link) ≡ true
-    → judged v b ≡ success e l reply → l .status ≡ v .link .status
+pub success-status : (v : View) (b : List ℕ) (e : Effect) (l : Link) (reply : List ℕ)
+    → settingsRule (v .settings) ≡ true → linkRule (v .link) ≡ true → judged v b ≡ success e l reply → l .status ≡ v .link .status
 success-status v b e l reply s t j = (rw j at (judged-sound v s t b)) .1
 
-pub not-set-up : (d : Device) (b : List ℕ) → isSetUp (d .settings) b ≡ false → engine d b ≡ record { device = d; reply = statusReply (headerOf b) 6 }
+pub not-set-up : (d : Device) (b : List ℕ) → isSetUp (d .settings) b ≡ false
+    → engine d b ≡ record { device = d; reply = statusReply (headerOf b) 6 }
 unfolding engine
 not-set-up d b e = rw e

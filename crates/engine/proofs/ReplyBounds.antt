@@ -1,4 +1,4 @@
--- PROMISE: every reply to a body has between 3 and 61 octets, from any state that keeps its rules; three is reached. Assumes nothing.
+-- PROMISE: every reply to a body has between 3 and 61 octets, from any state that keeps its rules. Assumes nothing.
 use mathlib.Core.Path.{_≡_, refl}
 use mathlib.Core.Bool.{true, cond}
 use mathlib.Core.List.{List, [], _∷_}

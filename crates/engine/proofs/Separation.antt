@@ -97,7 +97,8 @@ pub other-link : (d : Device) (b : List ℕ) (k : ℕ) → length (d .links) ≡
 unfolding viewAfter effectItem viewStep moved
 other-link d b k h few n =
     by-test (isSetUp (d .settings) b)
-    (λ e. rw e (ap (viewOf k) (body-set-up d b e) ∙ view-other d h k few (effectOf b) (linkOf b) (decide (viewOf (linkOf b) d) b .link) n ∙ by (effectOf b)))
+    (λ e. let l = decide (viewOf (linkOf b) d) b .link in
+    rw e (ap (viewOf k) (body-set-up d b e) ∙ view-other d h k few (effectOf b) (linkOf b) l n ∙ by (effectOf b)))
     (λ e. rw e (ap (viewOf k) (body-not-set-up d b e)))
   where
     by : (f : Effect) → moved f (viewOf k d) (viewOf k d .link) ≡ foldl viewStep (viewOf k d) (effectItem f)
@@ -157,11 +158,13 @@ unfolding repliesOn viewReplies merged viewAfter
 replies-after k few d [] h = refl
 replies-after k few d (b ∷ bs) h =
     let rest = replies-after k few (deviceStep d b) bs (step-four d b h) in
-    ap₂ (λ x y. x ++ y) (step-replies d b k) (rest ∙ ap₂ (λ v s. emitted itemReplies viewStep v (each (itemOf s k) bs)) (step-view d b k h few) (step-settings d b))
+    let later = rest ∙ ap₂ (λ v s. emitted itemReplies viewStep v (each (itemOf s k) bs)) (step-view d b k h few) (step-settings d b) in
+    ap₂ (λ x y. x ++ y) (step-replies d b k) later
     ∙ sym (emitted-append itemReplies viewStep (viewOf k d) (itemOf (d .settings) k b) (each (itemOf (d .settings) k) bs))
 
 -- links are separate: the same merged sequence leaves link k the same view and gives it the same replies
-pub separation : (k : ℕ) → k < 4 → (d e : Device) (bs cs : List (List ℕ)) → rules d ≡ true → rules e ≡ true → viewOf k d ≡ viewOf k e
+pub separation : (k : ℕ) → k < 4 → (d e : Device) (bs cs : List (List ℕ))
+    → rules d ≡ true → rules e ≡ true → viewOf k d ≡ viewOf k e
     → merged (d .settings) k bs ≡ merged (e .settings) k cs
     → (viewOf k (deviceAfter d bs) ≡ viewOf k (deviceAfter e cs)) × (repliesOn k d bs ≡ repliesOn k e cs)
 separation k few d e bs cs p q same m = (

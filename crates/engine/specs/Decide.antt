@@ -35,9 +35,12 @@ unfoldable pub replying : Effect → Link → List ℕ → Judged
 replying e l reply = cond (ltb 61 (length reply)) (stopped 7) (success e l reply)
 
 -- the value of the reply is the one held after the command
+abbrev pub performed : View → ℕ → Command → Row → List ℕ → Link → Effect → Judged
+performed v h c r p l e = replying e l (replied (after v e l) h c r p)
+
 unfoldable pub concluded : View → ℕ → Command → Row → List ℕ → Link → Outcome → Judged
 concluded v h c r p l (Refused s) = stopped s
-concluded v h c r p l (Done e) = replying e l (replied (after v e l) h c r p)
+concluded v h c r p l (Done e) = performed v h c r p l e
 
 unfoldable pub reached : View → ℕ → Command → Row → List ℕ → Judged
 reached v h c r p = concluded v h c r p (perform (v .link) c (r .kind) p .link) (perform (v .link) c (r .kind) p .outcome)

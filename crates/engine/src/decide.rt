@@ -18,8 +18,8 @@ ghost use Prim.Native.Nat.{_≤_, _<_};
 ghost use lib.ListN.{length};
 ghost use Rattle.property.specs.Rule.{rowRule};
 ghost use Rattle.device.specs.Rules.{settingsRule, linkRule};
-ghost use Rattle.engine.specs.Decide.{Did, stated, decisionOf, replying, reached, decide};
-ghost use Rattle.command.specs.Reply.{content, replied};
+ghost use Rattle.engine.specs.Decide.{Did, stated, decisionOf, performed, reached, decide};
+ghost use Rattle.command.specs.Reply.{content};
 ghost use Rattle.command.specs.View.{after};
 
 // The effect on the whole box, the link, and how many octets the reply has.
@@ -57,7 +57,7 @@ fn conclude(
 ) -> Decided
     requires { ⌜ (settingsRule (view .settings) ≡ true) × (linkRule link ≡ true) × (rowRule row ≡ true) ⌝ }
     requires { ⌜ (61 ≤ length (now out)) × (length (content (after view effect link) command (row .kind) (now payload)) ≤ 33) ⌝ }
-    ensures { λ r. ⌜ Did (decisionOf view header (replying effect link (replied (after view effect link) header command row (now (payload .entry))))) r (now (out .entry)) (now (out .exit)) ⌝ }
+    ensures { λ r. ⌜ Did (decisionOf view header (performed view header command row (now (payload .entry)) link effect)) r (now (out .entry)) (now (out .exit)) ⌝ }
 {
     let len = write_reply(out, view.after(effect, link), header, command, row, payload);
     if Device::MOST_REPLY < len {

@@ -1,8 +1,12 @@
 // Published vectors, run through the code. Each line says what went in and what came out; the file stdout holds what must come out, from
 // the sources that the comments name and from 01's rules, never from this program.
+mod boxes;
 mod checks;
+mod commands;
 mod frames;
 mod integers;
+mod rows;
+mod setups;
 mod show;
 mod types;
 mod wires;
@@ -14,4 +18,7 @@ fn main() {
     wires::run();
     wires::run_long();
     types::run();
+    setups::run();
+    commands::run();
+    rows::run();
 }

@@ -1,6 +1,8 @@
 -- Each return is a branch of the definition. Assumes nothing.
+use native.Mathlib.Omega.{arith}
 use borrow.Author.Needs.{needs}
 use borrow.Author.Tests.{eq-eqb, ne-eqb}
+use lib.ListN.{length}
 use Rattle.command.specs.Perform.{getWith}
 use Rattle.command.proofs.perform.get.Statement.{statement}
 use Rattle.command.proofs.perform.get.Tie as tie
@@ -11,6 +13,6 @@ get-spec =
     tie.close
     (tie.spec
     (λ c κs. search needs)
-    (λ c. rw (ne-eqb _ _ (c .before .if1 .taken), c .refused .ensures))
+    (λ c. let p = c .before .before .before .args .payload .now in rw (ne-eqb (length p) 0 (λ z. omega arith), c .refused .ensures))
     (λ c κs. search needs)
-    (λ c. rw (eq-eqb _ _ (c .before .if1 .left), c .done .ensures)))
+    (λ c. let p = c .before .before .before .args .payload .now in rw (eq-eqb (length p) 0 (omega arith), c .done .ensures)))

@@ -21,7 +21,7 @@ no-end c =
     let d = c .before .before in
     let p = d .before .before .args .payload .now in
     let first = d .find-octet .ensures ∙ zero-add _ in
-    rw (ne-eqb (suc (before 0 p)) (length p) (λ q. c .before .if1 .taken (omega arith)), c .refused .ensures)
+    rw (ne-eqb (suc (before 0 p)) (length p) (λ q. omega arith), c .refused .ensures)
 
 named : tie.Need-returns-2
 unfolding setName

@@ -1,4 +1,5 @@
 -- Each return is a branch of the definition. Assumes nothing.
+use native.Mathlib.Omega.{arith}
 use borrow.Author.Needs.{needs}
 use borrow.Author.Tests.{lt-ltb, le-ltb}
 use Rattle.device.specs.Rules.{linkKept}
@@ -11,6 +12,6 @@ link-is-kept-spec =
     tie.close
     (tie.spec
     (λ c κs. search needs)
-    (λ c. rw (lt-ltb _ _ (c .before .if1 .taken), c .link-keeps .ensures))
+    (λ c. let a = c .before .before .args in rw (lt-ltb (a .k) (a .links) (omega arith), c .link-keeps .ensures))
     (λ c κs. search needs)
-    (λ c. rw (le-ltb _ _ (c .before .if1 .left), c .is-fresh .ensures)))
+    (λ c. let a = c .before .before .args in rw (le-ltb (a .k) (a .links) (omega arith), c .is-fresh .ensures)))

@@ -1,4 +1,5 @@
 -- The lengths are those of the types; each return is a test of the definition. Assumes nothing.
+use native.Mathlib.Omega.{arith}
 use borrow.Author.Needs.{needs}
 use borrow.Author.Tests.{le-leb, lt-leb}
 use mathlib.Core.Path.{_≡_, sym, _∙_}
@@ -17,7 +18,8 @@ unfolding linkRule
 link-keeps-spec =
     tie.close
     (tie.spec
-    (λ c. rw (sizes (c .before), lt-leb _ _ (c .if1 .taken)))
+    (λ c. let l = c .before .before .before .before .before .before .before .args .link in
+    rw (sizes (c .before), lt-leb (l .status) 127 (omega arith)))
     (λ c κs. search needs)
     (λ c κs. search needs)
     (λ c. search needs)

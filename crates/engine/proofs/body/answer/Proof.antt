@@ -17,7 +17,7 @@ answer-spec =
     (λ c. search needs)
     (λ c κs. search needs)
     (λ c κs. let i = c .before .before in let s = i .before .before .before .before .before .before in
-    rw (c .before .of .ensures) (settings-of _ (s .pre .0), link-at _ (s .pre .0) _ (i .if1 .taken), omega arith, search needs))
+    rw (c .before .of .ensures) (settings-of _ (s .pre .0), link-at _ (s .pre .0) _ (omega arith), omega arith, search needs))
     (λ c κs. search needs)
     (λ c. search needs)
     (λ c. let d = c .before .before .before .before in let i = d .before .before .before in

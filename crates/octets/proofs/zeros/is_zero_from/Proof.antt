@@ -20,13 +20,15 @@ returns : tie.Need-returns Inv-loop μ-loop
 unfolding zerosFrom
 returns c =
     let w = c .before .before .before in
-    sym (w .loop .inv .1 ∙ scan-stop _ (length (w .before .args .octets .now)) (w .loop .at) (omega arith) (ne-eqb _ _ (c .if1 .taken)))
+    let xs = w .before .args .octets .now in
+    sym (w .loop .inv .1 ∙ scan-stop _ (length xs) (w .loop .at) (omega arith) (ne-eqb (getD xs (w .loop .at) 0) 0 (λ z. omega arith)))
 
 loop-again : tie.Need-loop-again Inv-loop μ-loop
 unfolding zerosFrom
 loop-again c =
     let w = c .before .before .before in
-    (omega arith, w .loop .inv .1 ∙ scan-on _ (length (w .before .args .octets .now)) (w .loop .at) (omega arith) (eq-eqb _ _ (c .if1 .left)))
+    let xs = w .before .args .octets .now in
+    (omega arith, w .loop .inv .1 ∙ scan-on _ (length xs) (w .loop .at) (omega arith) (eq-eqb (getD xs (w .loop .at) 0) 0 (omega arith)))
 
 returns-2 : tie.Need-returns-2 Inv-loop μ-loop
 unfolding zerosFrom

@@ -24,15 +24,16 @@ loop-holds c = (omega arith, refl)
 returns : tie.Need-returns Inv-loop μ-loop
 returns c =
     let w = c .before .before in
-    let row = w .row-at .ensures in (
-      sym (w .before .before .loop .inv .1 ∙ hit _ _ (w .before .loop-test .taken) (ap (λ (r : Row). r .id) (sym row) ∙ c .if1 .taken) ∙ ap At (sym row)),
-      rw row (rows-keep _ (w .before .loop-test .taken)),
-    )
+    let row = w .row-at .ensures in
+    let asked : w .row-at .result .id ≡ w .before .before .before .args .id = omega arith in
+    let found = hit _ _ (w .before .loop-test .taken) (ap (λ (r : Row). r .id) (sym row) ∙ asked) in
+    (sym (w .before .before .loop .inv .1 ∙ found ∙ ap At (sym row)), rw row (rows-keep _ (w .before .loop-test .taken)))
 
 loop-again : tie.Need-loop-again Inv-loop μ-loop
 loop-again c =
     let w = c .before .before in
-    (omega arith, w .before .before .loop .inv .1 ∙ miss _ _ (w .before .loop-test .taken) (λ e. c .if1 .left (ap (λ (r : Row). r .id) (w .row-at .ensures) ∙ e)))
+    let other = miss _ _ (w .before .loop-test .taken) (λ e. c .if1 .left (ap (λ (r : Row). r .id) (w .row-at .ensures) ∙ e)) in
+    (omega arith, w .before .before .loop .inv .1 ∙ other)
 
 returns-2 : tie.Need-returns-2 Inv-loop μ-loop
 returns-2 c = (sym (c .before .loop .inv .1 ∙ past (c .before .loop .i) _ (omega arith)), tt)

@@ -1,4 +1,5 @@
 -- The lengths are those of the types; each return is a test of the definition. Assumes nothing.
+use native.Mathlib.Omega.{arith}
 use borrow.Author.Needs.{needs}
 use borrow.Author.Tests.{eq-eqb, le-leb, lt-leb}
 use mathlib.Core.Path.{_≡_}
@@ -22,10 +23,12 @@ keep-rules-spec =
     (tie.spec
     (λ c. let d = c .before in rw (text-size d, address-size d, lt-leb _ _ (c .if1 .taken)))
     (λ c. let p = c .before .before in
-    rw (text-size (p .before), address-size (p .before), le-leb _ _ (p .if1 .left), lt-leb _ _ (c .if2 .taken)))
+    let s = p .before .before .before .before .args .self in
+    rw (text-size (p .before), address-size (p .before), le-leb _ _ (p .if1 .left), lt-leb (s .links) 4 (omega arith)))
     (λ c. let p = c .before .before in
     let d = p .before .before .before in
-    rw (text-size d, address-size d, le-leb _ _ (p .before .before .if1 .left), le-leb _ _ (p .if2 .left), lt-leb _ _ (c .if3 .taken)))
+    let s = d .before .before .before .args .self in
+    rw (text-size d, address-size d, le-leb _ _ (p .before .before .if1 .left), le-leb _ _ (p .if2 .left), lt-leb (s .vendor) 2097151 (omega arith)))
     (λ c. search needs)
     (λ c κs. search needs)
     (λ c. let p = c .before .before in

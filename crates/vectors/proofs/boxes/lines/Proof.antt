@@ -1,0 +1,32 @@
+-- The measure is how much of the text is left. Assumes nothing.
+use Prim.Native.Nat.{_≤_}
+use borrow.Author.Needs.{needs}
+use lib.ListN.{length}
+use Rattle.vectors.proofs.boxes.lines.Statement.{statement}
+use Rattle.vectors.proofs.boxes.lines.Tie as tie
+
+abbrev Inv-loop : tie.InvT-loop
+Inv-loop head fresh text rest₀ rest = length rest ≤ length text
+
+abbrev μ-loop : tie.MeasureT-loop
+μ-loop head fresh text rest₀ rest = length rest
+
+pub lines-spec : {M : Type 1} → statement M
+lines-spec =
+    tie.close
+    (tie.spec
+    Inv-loop
+    μ-loop
+    (λ c. search needs)
+    (λ c κs. search needs)
+    (λ c κs. search needs)
+    (λ c κs. search needs)
+    (λ c κs. search needs)
+    (λ c. search needs)
+    (λ c. search needs)
+    (λ c. search needs)
+    (λ c. search needs)
+    (λ c. search needs)
+    (λ c. search needs)
+    (λ c. search needs)
+    (λ c. search needs))
