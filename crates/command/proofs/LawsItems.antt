@@ -1,15 +1,15 @@
 -- Laws of ports that are inserted and removed. Assumes nothing.
-use mathlib.Core.Path.{_≡_, refl, sym, ap, ap₂, _∙_}
-use mathlib.Core.Bool.{Bool, true, false, not, _&&_}
+use mathlib.Core.Path.{_≡_, refl, sym, ap, _∙_}
+use mathlib.Core.Bool.{Bool, true, false, not}
 use mathlib.Core.List.{List, [], _∷_, _++_}
-use Prim.Native.Nat.{ℕ, zero, suc, _+_, _*_, _-_, _%_, _<_, _≤_}
+use Prim.Native.Nat.{ℕ, zero, suc, _+_, _*_, _%_, _<_, _≤_}
 use native.Mathlib.Omega.{arith}
-use borrow.Author.Tests.{eq-eqb, ne-eqb, eqb-false, lt-ltb, le-ltb, ltb-false}
-use lib.Dec.{eqb, ltb}
+use borrow.Author.Tests.{ne-eqb, eqb-false, le-ltb, ltb-false}
+use lib.Dec.{eqb}
 use lib.ListN.{length, take, drop, length-append, length-take, length-drop}
 use Rattle.octets.specs.Finding.{before}
 use Rattle.octets.specs.LittleEndian.{le, leAt}
-use Rattle.octets.proofs.LawsTests.{by-test, chosen, and-l, and-r, both}
+use Rattle.octets.proofs.LawsTests.{by-test, and-l, and-r, both}
 use Rattle.device.specs.State.{portsIn, holds, distinct}
 use Rattle.device.proofs.LawsPorts.{ports-length, place-held, place-none}
 use Rattle.command.specs.Perform.{without}

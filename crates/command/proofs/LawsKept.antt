@@ -1,20 +1,20 @@
 -- A command leaves a link that keeps its rules, with the last status that it had, and refuses with a status that a link can hold.
 -- Assumes nothing.
-use mathlib.Core.Path.{_≡_, refl, sym, ap, _∙_}
-use mathlib.Core.Bool.{Bool, true, false, not, _&&_}
-use mathlib.Core.List.{List, [], _∷_, _++_}
-use Prim.Native.Nat.{ℕ, suc, _+_, _*_, _%_, _^_, _<_, _≤_}
+use mathlib.Core.Path.{_≡_, refl, sym, _∙_}
+use mathlib.Core.Bool.{Bool, true, false, not}
+use mathlib.Core.List.{List, _++_}
+use Prim.Native.Nat.{ℕ, suc, _+_, _*_, _%_, _<_, _≤_}
 use native.Mathlib.Omega.{arith}
-use borrow.Author.Tests.{eq-eqb, eqb-true, eqb-false, le-leb, leb-true, ltb-true, ltb-false}
+use borrow.Author.Tests.{eq-eqb, eqb-true, eqb-false, le-leb, ltb-true, ltb-false}
 use lib.Dec.{eqb, ltb, leb}
-use lib.ListN.{length, getD, take, drop, set, length-append, length-set}
+use lib.ListN.{length, getD, take, set, length-append, length-set}
 use lib.Seq.{getD-set-same, getD-set-other}
 use Rattle.octets.specs.Finding.{before}
 use Rattle.octets.specs.LittleEndian.{le}
 use Rattle.octets.specs.Padding.{pad}
 use Rattle.octets.proofs.LawsPadding.{pad-length, pad-front, pad-zeros}
 use Rattle.octets.proofs.LawsScanning.{all-at, all-of}
-use Rattle.octets.proofs.LawsTests.{by-test, chosen, and-l, and-r, both, impossible}
+use Rattle.octets.proofs.LawsTests.{by-test, chosen, and-l, and-r, impossible}
 use Rattle.property.specs.Numbers.{numberAt, powerState, within}
 use Rattle.property.specs.declared.number.Number.{Number as Numeric}
 use Rattle.property.specs.declared.row.Command.{Command}
@@ -22,20 +22,18 @@ use Rattle.property.specs.declared.row.Command.the-variants.{Get, Set, Insert, 
 use Rattle.property.specs.declared.row.Kind.{Kind}
 use Rattle.property.specs.declared.row.Kind.the-variants.{ReadOnly, Power, Number, Name, Ports}
 use Rattle.property.proofs.TableRule.{numbers-keep, outside-most}
-use Rattle.device.specs.State.{heldFrom, octetsOf, isText, goodText, portsIn, holds, distinct}
-use Rattle.device.specs.Rules.{padded, textRule, portsRule, inRange, stackRule, sized, linkRule}
-use Rattle.device.specs.declared.state.Held.{Held}
+use Rattle.device.specs.State.{heldFrom, octetsOf, isText, portsIn, holds, distinct}
+use Rattle.device.specs.Rules.{padded, portsRule, inRange, stackRule, sized, linkRule}
 use Rattle.device.specs.declared.state.Link.{Link}
 use Rattle.device.proofs.LawsPorts.{ports-length}
 use Rattle.device.proofs.LawsRules.{text-told, text-pad}
-use Rattle.device.proofs.StateRules.{LinkFacts, link-told, nine-numbers, Room, name-room, ports-room, ports-even, ports-distinct}
-use Rattle.command.specs.declared.view.Effect.the-variants.{None, Powered}
+use Rattle.device.proofs.StateRules.{LinkFacts, link-told, nine-numbers, ports-room, ports-even, ports-distinct}
 use Rattle.command.specs.declared.perform.Outcome.{Outcome}
 use Rattle.command.specs.declared.perform.Outcome.the-variants.{Done, Refused}
 use Rattle.command.specs.declared.perform.Performed.{Performed}
 use Rattle.command.specs.declared.set.Value.{Value}
 use Rattle.command.specs.declared.set.Value.the-variants.{Good, Bad}
-use Rattle.command.specs.Perform.{done, refused, withNumbers, withName, withPorts, getWith, valueIn, conflicts, numberTo, setNumber, powerTo, setPower, setName, setPorts, setKind, portsHeld, insertPort, without, removePort, perform}
+use Rattle.command.specs.Perform.{done, refused, withNumbers, withName, withPorts, getWith, valueIn, conflicts, numberTo, setNumber, powerTo, setPower, setName, setPorts, setKind, insertPort, without, removePort, perform}
 use Rattle.command.proofs.StackAndInterface.{conflict-test}
 use Rattle.command.proofs.LawsNumbers.{value-within}
 use Rattle.command.proofs.LawsItems.{distinct-snoc, distinct-less, ports-snoc, ports-without, length-without}

@@ -1,15 +1,14 @@
 -- How long a reply is, from a state that keeps its rules. Assumes nothing.
-use mathlib.Core.Path.{_≡_, refl, sym, ap, _∙_}
+use mathlib.Core.Path.{_≡_, refl}
 use mathlib.Core.Bool.{Bool, true, false, cond}
-use mathlib.Core.List.{List, [], _∷_, _++_}
-use Prim.Native.Nat.{ℕ, suc, _+_, _<_, _≤_}
+use mathlib.Core.List.{List, [], _∷_}
+use Prim.Native.Nat.{ℕ, _<_, _≤_}
 use native.Mathlib.Omega.{arith}
 use borrow.Author.Tests.{eqb-true}
-use lib.Dec.{eqb, ltb}
-use lib.ListN.{length, getD, take, length-append}
-use Rattle.octets.specs.LittleEndian.{le}
+use lib.Dec.{eqb}
+use lib.ListN.{length, getD, length-append}
 use Rattle.octets.proofs.LawsLittleEndian.{length-le}
-use Rattle.octets.proofs.LawsTests.{by-test, impossible}
+use Rattle.octets.proofs.LawsTests.{impossible}
 use Rattle.packed.specs.Packed.{packed}
 use Rattle.packed.proofs.ReadsBack.{packed-size}
 use Rattle.property.specs.Numbers.{numberAt}
@@ -22,18 +21,18 @@ use Rattle.property.specs.declared.row.ReadOnly.{ReadOnly as Fixed}
 use Rattle.property.specs.declared.row.ReadOnly.the-variants.{LastStatus, ProtocolVersion, VersionText, InterfaceType, Vendor, Capabilities, InterfaceCount, HardwareAddress}
 use Rattle.property.specs.declared.row.Row.{Row}
 use Rattle.property.proofs.TableRule.{numbers-keep, slot-below, width-most}
-use Rattle.device.specs.State.{holds, textOf, octetsOf}
+use Rattle.device.specs.State.{textOf, octetsOf}
 use Rattle.device.specs.Rules.{settingsRule, linkRule}
 use Rattle.device.specs.declared.state.Link.{Link}
 use Rattle.device.proofs.StateRules.{link-from, settings-told, name-room, ports-room}
 use Rattle.command.specs.declared.view.View.{View}
 use Rattle.command.specs.declared.view.Effect.{Effect}
-use Rattle.command.specs.declared.perform.Outcome.the-variants.{Done, Refused}
+use Rattle.command.specs.declared.perform.Outcome.the-variants.{Done}
 use Rattle.command.specs.declared.perform.Performed.{Performed}
 use Rattle.command.specs.View.{after}
-use Rattle.command.specs.Perform.{refused, portsHeld, insertPort, removePort, perform}
+use Rattle.command.specs.Perform.{refused, insertPort, removePort, perform}
 use Rattle.command.specs.Value.{fixedValue, numberValue, valueOf}
-use Rattle.command.specs.Reply.{replyCommand, content, replied}
+use Rattle.command.specs.Reply.{content, replied}
 use Rattle.command.proofs.LawsKept.{perform-kept}
 
 module _ (v : View) (s : settingsRule (v .settings) ≡ true) where

@@ -1,26 +1,25 @@
 -- What a verdict tells of the body, and which octets give which verdict. Assumes nothing.
-use mathlib.Core.Path.{_≡_, refl, sym, ap, _∙_}
-use mathlib.Core.Bool.{Bool, true, false, cond, _&&_}
+use mathlib.Core.Path.{_≡_, refl, _∙_}
+use mathlib.Core.Bool.{true}
 use mathlib.Core.List.{List}
-use Prim.Native.Nat.{ℕ, suc, _+_, _<_, _≤_}
+use Prim.Native.Nat.{ℕ, _≤_}
 use native.Mathlib.Omega.{arith}
-use borrow.Author.Tests.{eq-eqb, ne-eqb, eqb-true, eqb-false, ltb-true, ltb-false, le-ltb}
+use borrow.Author.Tests.{eqb-true, ltb-false}
 use lib.Dec.{eqb, ltb}
 use lib.ListN.{length, getD}
 use Rattle.octets.proofs.LawsTests.{by-test, impossible}
 use Rattle.packed.specs.Packed.{packedAt}
 use Rattle.packed.specs.declared.Packed.{Packed}
 use Rattle.packed.specs.declared.Packed.the-variants.{Number, Unreadable}
-use Rattle.packed.proofs.OneSpelling.{place-after, one-octet, of-octet}
-use Rattle.property.specs.Rows.{rows, lookupIn, lookup, allows}
+use Rattle.packed.proofs.OneSpelling.{place-after, one-octet}
+use Rattle.property.specs.Rows.{lookup, allows}
 use Rattle.property.specs.Rule.{rowRule}
 use Rattle.property.specs.declared.row.Command.{Command}
 use Rattle.property.specs.declared.row.Found.{Found}
 use Rattle.property.specs.declared.row.Found.the-variants.{At, Unknown}
 use Rattle.property.specs.declared.row.Row.{Row}
 use Rattle.property.proofs.TableRule.{Asked, lookup-asked}
-use Rattle.command.specs.declared.verdict.Verdict.{Verdict}
-use Rattle.command.specs.declared.verdict.Verdict.the-variants.{Refuse, Noop, Reset, Reach}
+use Rattle.command.specs.declared.verdict.Verdict.the-variants.{Reset, Reach}
 use Rattle.command.specs.Verdict.{commandOf, byRow, byProperty, byCommand, verdict}
 
 -- where a verdict is that a command reaches a property

@@ -8,7 +8,6 @@ use property::allows;
 use property::find;
 use property::status;
 ghost use mathlib.Core.Path.{_≡_};
-ghost use Rattle.packed.specs.Packed.{packedAt};
 ghost use Rattle.command.specs.Verdict.{commandOf, byProperty, verdict};
 
 pub enum Verdict {

@@ -11,9 +11,8 @@ use property::power_state;
 use property::slot;
 use property::status;
 ghost use mathlib.Core.Path.{_≡_};
-ghost use lib.ListN.{length, getD};
+ghost use lib.ListN.{getD};
 ghost use Rattle.octets.specs.Scanning.{allBelow};
-ghost use Rattle.property.specs.Numbers.{numberAt, within};
 ghost use Rattle.device.specs.State.{noLink};
 ghost use Rattle.device.specs.Rules.{padded, textRule, portsRule, inRange, atDefaults, stackRule, linkRule, isFresh, settingsRule, linkKept, rules};
 
@@ -144,6 +143,20 @@ fn link_is_kept(link: Link, k: usize, links: usize) -> bool
     is_fresh(link)
 }
 
+fn links_keep(links: [Link; Device::MOST_LINKS], count: usize) -> bool
+    ensures { λ r. ⌜ r ≡ allBelow 4 (λ k. linkKept count (getD links k noLink) k) ⌝ }
+{
+    let mut k: usize = 0;
+    while k < Device::MOST_LINKS {
+        if link_is_kept(links[k], k, count) {
+            k += 1;
+        } else {
+            return false;
+        }
+    }
+    true
+}
+
 impl Settings {
     pub fn keep_rules(self) -> bool
         ensures { λ r. ⌜ r ≡ settingsRule self ⌝ }
@@ -177,18 +190,4 @@ impl Device {
         }
         false
     }
-}
-
-fn links_keep(links: [Link; Device::MOST_LINKS], count: usize) -> bool
-    ensures { λ r. ⌜ r ≡ allBelow 4 (λ k. linkKept count (getD links k noLink) k) ⌝ }
-{
-    let mut k: usize = 0;
-    while k < Device::MOST_LINKS {
-        if link_is_kept(links[k], k, count) {
-            k += 1;
-        } else {
-            return false;
-        }
-    }
-    true
 }

@@ -1,21 +1,19 @@
 -- PROMISE: what a body on a link that is set up does to the whole box is what 01, Whole histories, tells by its octets: a reset, an
 -- accepted setting of the power state, or nothing. Assumes nothing.
 use mathlib.Core.Path.{_≡_, refl, sym, ap, ap₂, _∙_}
-use mathlib.Core.Bool.{Bool, true, false, cond, _&&_}
-use mathlib.Core.List.{List, [], _∷_, _++_}
-use Prim.Native.Nat.{ℕ, zero, suc, _+_, _*_, _%_, _<_, _≤_}
+use mathlib.Core.Bool.{true, false, _&&_}
+use mathlib.Core.List.{List, [], _∷_}
+use Prim.Native.Nat.{ℕ, suc, _+_, _*_, _%_, _≤_}
 use native.Mathlib.Omega.{arith}
-use native.Mathlib.Nat.{add-zero}
-use borrow.Author.Tests.{eq-eqb, ne-eqb, eqb-true, leb-true, le-leb, le-ltb}
+use borrow.Author.Tests.{eq-eqb, eqb-true, leb-true, le-leb, le-ltb}
 use lib.Dec.{eqb, ltb, leb}
-use lib.ListN.{length, getD, take, drop, set, length-drop, List·getD-eq-default}
-use lib.Seq.{getD-drop, drop-cons}
+use lib.ListN.{length, getD, take, drop, length-drop}
+use lib.Seq.{getD-drop}
 use Rattle.octets.specs.Finding.{before}
 use Rattle.octets.specs.LittleEndian.{le}
 use Rattle.octets.proofs.LawsTests.{by-test, chosen, and-l, and-r, both, impossible}
-use Rattle.packed.specs.Packed.{packed, packedIn, joined, numberIn, packedAt}
-use Rattle.packed.specs.declared.Packed.the-variants.{Number}
-use Rattle.packed.proofs.OneSpelling.{one-octet, of-octet}
+use Rattle.packed.specs.Packed.{packed, packedIn, numberIn, packedAt}
+use Rattle.packed.proofs.OneSpelling.{one-octet}
 use Rattle.property.specs.Rows.{rows, settable, lookupIn, lookup, allows}
 use Rattle.property.specs.Numbers.{numberAt, powerState, within}
 use Rattle.property.proofs.TableRule.{power-id}
@@ -28,7 +26,6 @@ use Rattle.property.specs.declared.row.Row.{Row}
 use Rattle.device.specs.State.{isText, portsIn, holds, distinct}
 use Rattle.device.specs.declared.state.Link.{Link}
 use Rattle.command.specs.declared.view.View.{View}
-use Rattle.command.specs.declared.view.Effect.{Effect}
 use Rattle.command.specs.declared.view.Effect.the-variants.{None, Reset, Powered}
 use Rattle.command.specs.declared.perform.Outcome.{Outcome}
 use Rattle.command.specs.declared.perform.Outcome.the-variants.{Done, Refused}
@@ -41,7 +38,7 @@ use Rattle.command.specs.View.{after}
 use Rattle.command.specs.Verdict.{commandOf, byRow, byProperty, byCommand, verdict as verdictOf}
 use Rattle.command.specs.Perform.{getWith, valueIn, conflicts, numberTo, setNumber, powerTo, setPower, setName, setPorts, setKind, insertPort, portsHeld, removePort, perform}
 use Rattle.command.specs.Value.{valueOf}
-use Rattle.engine.specs.Decide.{replying, concluded, reached, judgedBy, judged, stated, decisionOf, decide}
+use Rattle.engine.specs.Decide.{replying, concluded, reached, judgedBy, judged, reported, decisionOf, decide}
 use Rattle.command.specs.Reply.{headerOf, replyCommand, content, replied}
 use Rattle.engine.specs.Merged.{isReset, isPower, effectOf}
 use Rattle.command.proofs.LawsNumbers.{power-most}
@@ -133,7 +130,7 @@ perform-still l Remove k p h =
 
 quiet-decision : (v : View) (h : ℕ) (c : Command) (r : Row) (p : List ℕ) (l : Link) (o : Outcome) → Quiet o
     → decisionOf v h (concluded v h c r p l o) .effect ≡ None
-unfolding decisionOf concluded replying stated
+unfolding decisionOf concluded replying reported
 quiet-decision v h c r p l (Refused s) q = refl
 quiet-decision v h c r p l (Done e) q =
     by-test (ltb 61 (length (replied (after v e l) h c r p))) (λ t. rw t) (λ t. rw t q)
@@ -257,7 +254,7 @@ effect-reach v b c r start e =
     (λ t. rw (n, t) (quiet-decision v (headerOf b) c r (drop start b) _ _ (still-reach v b c r start e t)))
 
 effect-by : (v : View) (b : List ℕ) (w : Verdict) → verdictOf b ≡ w → decisionOf v (headerOf b) (judgedBy v b w) .effect ≡ effectOf b
-unfolding judgedBy decisionOf stated
+unfolding judgedBy decisionOf reported
 effect-by v b (verdict.Refuse step s) e =
     sym (none b (no-reset b _ e (λ q. impossible cc)) (no-power b _ e (λ q. impossible cc)))
 effect-by v b verdict.Noop e = sym (none b (no-reset b _ e (λ q. impossible cc)) (no-power b _ e (λ q. impossible cc)))

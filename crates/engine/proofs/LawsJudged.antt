@@ -4,7 +4,6 @@ use mathlib.Core.Path.{_≡_, refl}
 use mathlib.Core.Bool.{true}
 use mathlib.Core.List.{List}
 use Prim.Native.Nat.{ℕ, _≤_}
-use borrow.Author.Tests.{ltb-false}
 use lib.Dec.{eqb, ltb, leb}
 use lib.ListN.{length, drop}
 use Rattle.octets.proofs.LawsTests.{chosen}
@@ -19,7 +18,6 @@ use Rattle.property.specs.declared.row.Found.the-variants.{At, Unknown}
 use Rattle.property.specs.declared.row.Row.{Row}
 use Rattle.property.proofs.TableRule.{slot-below}
 use Rattle.device.specs.Rules.{settingsRule, linkRule}
-use Rattle.device.specs.declared.state.Link.{Link}
 use Rattle.device.proofs.StateRules.{LinkFacts}
 use Rattle.command.specs.declared.view.View.{View}
 use Rattle.command.specs.declared.perform.Outcome.{Outcome}
@@ -31,7 +29,7 @@ use Rattle.command.specs.Verdict.{commandOf, byRow, byProperty, byCommand, verd
 use Rattle.command.specs.Perform.{perform}
 use Rattle.engine.specs.Decide.{Judged, stopped, noop, reset, success, replying, concluded, reached, judgedBy, judged}
 use Rattle.command.specs.Reply.{headerOf, replied}
-use Rattle.command.proofs.LawsKept.{SmallStatus, perform-kept}
+use Rattle.command.proofs.LawsKept.{perform-kept}
 use Rattle.command.proofs.LawsReplies.{content-size, replied-size}
 use Rattle.command.proofs.LawsVerdict.{verdict-reach}
 

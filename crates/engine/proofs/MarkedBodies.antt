@@ -13,7 +13,7 @@ use Rattle.command.specs.View.{powerAfter}
 use Rattle.command.specs.Verdict.{commandOf, byRow, byProperty, byCommand, verdict}
 use Rattle.command.specs.Perform.{getWith, valueIn, conflicts, numberTo, setNumber, powerTo, setPower, setName, setPorts, setKind, insertPort, without, removePort, perform}
 use Rattle.command.specs.Value.{fixedValue, numberValue, valueOf}
-use Rattle.engine.specs.Decide.{replying, concluded, reached, judgedBy, judged, stated, decisionOf, decide}
+use Rattle.engine.specs.Decide.{replying, concluded, reached, judgedBy, judged, reported, decisionOf, decide}
 use Rattle.command.specs.Reply.{statusReply, replyCommand, content, replied}
 use Rattle.engine.specs.Engine.{linkOf, isSetUp, affect, settled, engine}
 use Rattle.engine.specs.Marked.{freshBox, repliesTo, marked}
@@ -22,7 +22,7 @@ pub marked-bodies : map (λ l. repliesTo freshBox (l .bodies)) marked ≡ map (�
 unfolding before le leOctets pad packed packedIn joined numberIn packedAt rows lookupIn lookup allows numbers within
     goodText isText portsIn holds distinct defaults fresh isSetup refusal setupFor powerAfter commandOf byRow byProperty byCommand verdict
     getWith valueIn conflicts numberTo setNumber powerTo setPower setName setPorts setKind insertPort without removePort perform
-    fixedValue numberValue valueOf statusReply replyCommand content replied replying concluded reached judgedBy judged stated decisionOf
+    fixedValue numberValue valueOf statusReply replyCommand content replied replying concluded reached judgedBy judged reported decisionOf
     decide linkOf isSetUp affect settled engine freshBox repliesTo marked
 marked-bodies = refl
 

@@ -1,7 +1,7 @@
 -- PROMISE: "A refusal changes only that link's last status. NOOP sets it to 0; other successes leave it." A link that is not set up
 -- changes nothing. Assumes nothing.
-use mathlib.Core.Path.{_≡_, refl, ap, _∙_}
-use mathlib.Core.Bool.{true, false, cond}
+use mathlib.Core.Path.{_≡_}
+use mathlib.Core.Bool.{true, false}
 use mathlib.Core.List.{List}
 use Prim.Native.Nat.{ℕ}
 use lib.ListN.{set}
@@ -11,10 +11,10 @@ use Rattle.device.specs.declared.state.Device.{Device}
 use Rattle.command.specs.declared.view.View.{View}
 use Rattle.command.specs.declared.view.Effect.{Effect}
 use Rattle.command.specs.View.{viewOf}
-use Rattle.engine.specs.Decide.{withStatus, Judged, stopped, noop, reset, success, judged, stated, decisionOf, decide}
+use Rattle.engine.specs.Decide.{withStatus, stopped, noop, success, judged, reported, decisionOf, decide}
 use Rattle.command.specs.Reply.{headerOf, statusReply}
-use Rattle.engine.specs.Engine.{linkOf, isSetUp, affect, Answer, settled, engine}
-use Rattle.engine.proofs.LawsJudged.{Sound, judged-sound}
+use Rattle.engine.specs.Engine.{linkOf, isSetUp, affect, settled, engine}
+use Rattle.engine.proofs.LawsJudged.{judged-sound}
 
 -- the box with one link's last status changed
 abbrev pub statusSet : Device → ℕ → ℕ → Device
@@ -23,12 +23,12 @@ statusSet d k s = record { settings = d .settings; power = d .power; links = set
 module _ (d : Device) (b : List ℕ) (up : isSetUp (d .settings) b ≡ true) where
   pub refusal-status : (s : ℕ) → judged (viewOf (linkOf b) d) b ≡ stopped s
       → engine d b ≡ record { device = statusSet d (linkOf b) s; reply = statusReply (headerOf b) s }
-  unfolding engine settled decide decisionOf stated affect
+  unfolding engine settled decide decisionOf reported affect
   refusal-status s e = rw (up, e)
 
   pub noop-status : judged (viewOf (linkOf b) d) b ≡ noop
       → engine d b ≡ record { device = statusSet d (linkOf b) 0; reply = statusReply (headerOf b) 0 }
-  unfolding engine settled decide decisionOf stated affect
+  unfolding engine settled decide decisionOf reported affect
   noop-status e = rw (up, e)
 
 -- a success other than NOOP and RESET leaves the last status that the link had

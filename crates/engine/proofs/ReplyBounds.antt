@@ -1,18 +1,18 @@
 -- PROMISE: every reply to a body has between 3 and 61 octets, from any state that keeps its rules. Assumes nothing.
-use mathlib.Core.Path.{_≡_, refl}
-use mathlib.Core.Bool.{true, cond}
-use mathlib.Core.List.{List, [], _∷_}
+use mathlib.Core.Path.{_≡_}
+use mathlib.Core.Bool.{true}
+use mathlib.Core.List.{List}
 use Prim.Native.Nat.{ℕ, _≤_}
 use native.Mathlib.Omega.{arith}
 use borrow.Author.Tests.{ltb-true}
 use lib.ListN.{length}
 use Rattle.octets.proofs.LawsTests.{chosen}
-use Rattle.device.specs.Rules.{settingsRule, linkRule, rules}
+use Rattle.device.specs.Rules.{rules}
 use Rattle.device.specs.declared.state.Device.{Device}
 use Rattle.device.proofs.StateRules.{settings-of, link-at}
 use Rattle.command.specs.declared.view.View.{View}
 use Rattle.command.specs.View.{viewOf}
-use Rattle.engine.specs.Decide.{Judged, stopped, noop, reset, success, judged, stated, decisionOf, decide}
+use Rattle.engine.specs.Decide.{Judged, stopped, noop, reset, success, judged, reported, decisionOf, decide}
 use Rattle.command.specs.Reply.{headerOf, statusReply}
 use Rattle.engine.specs.Engine.{linkOf, isSetUp, Answer, settled, engine}
 use Rattle.engine.proofs.LawsJudged.{Sound, judged-sound}
@@ -21,7 +21,7 @@ abbrev pub Bounded : List ℕ → Type 0
 Bounded reply = (3 ≤ length reply) × (length reply ≤ 61)
 
 by-judged : (v : View) (h : ℕ) (j : Judged) → Sound v j → Bounded (decisionOf v h j .reply)
-unfolding decisionOf stated statusReply
+unfolding decisionOf reported statusReply
 by-judged v h (stopped s) t = (omega arith, omega arith)
 by-judged v h noop t = (omega arith, omega arith)
 by-judged v h reset t = (omega arith, omega arith)

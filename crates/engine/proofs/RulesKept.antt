@@ -2,10 +2,10 @@
 use mathlib.Core.Path.{_≡_, refl, _∙_}
 use mathlib.Core.Bool.{true}
 use mathlib.Core.List.{List, [], _∷_}
-use Prim.Native.Nat.{ℕ, _<_, _≤_}
+use Prim.Native.Nat.{ℕ, _<_}
 use native.Mathlib.Omega.{arith}
 use borrow.Author.Tests.{eqb-true, eqb-false, leb-true, le-leb, ltb-true, lt-ltb, le-ltb}
-use lib.Dec.{eqb, ltb, leb}
+use lib.Dec.{eqb, leb}
 use lib.ListN.{length, getD, set, length-set}
 use lib.Seq.{getD-set-same, getD-set-other}
 use Rattle.octets.proofs.LawsTests.{by-test, chosen, and-r}
@@ -20,7 +20,7 @@ use Rattle.command.specs.declared.view.View.{View}
 use Rattle.command.specs.declared.view.Effect.{Effect}
 use Rattle.command.specs.declared.view.Effect.the-variants.{None, Reset, Powered}
 use Rattle.command.specs.View.{viewOf}
-use Rattle.engine.specs.Decide.{withStatus, Judged, stopped, noop, reset, success, judged, stated, decisionOf, decide}
+use Rattle.engine.specs.Decide.{withStatus, Judged, stopped, noop, reset, success, judged, reported, decisionOf, decide}
 use Rattle.command.specs.Reply.{headerOf}
 use Rattle.engine.specs.Engine.{linkOf, isSetUp, affect, engine}
 use Rattle.engine.specs.Merged.{deviceStep, deviceAfter, isReset, isPower, effectOf}
@@ -34,7 +34,7 @@ unfolding sized
 status-kept l s f h = record { sized = f .sized; status = h; range = f .range; stack = f .stack; name = f .name; ports = f .ports }
 
 link-by : (v : View) (h : ℕ) (j : Judged) → LinkFacts (v .link) → Sound v j → LinkFacts (decisionOf v h j .link)
-unfolding decisionOf stated
+unfolding decisionOf reported
 link-by v h (stopped s) f t = status-kept (v .link) s f t
 link-by v h noop f t = status-kept (v .link) 0 f refl
 link-by v h reset f t = f

@@ -5,11 +5,11 @@ use mathlib.Core.Logic.{_≢_}
 use mathlib.Core.Path.{_≡_, refl, sym, ap, ap₂, _∙_}
 use mathlib.Core.Bool.{Bool, true, false, cond, not, _&&_}
 use mathlib.Core.List.{List, [], _∷_, _++_, foldl, foldl-append}
-use Prim.Native.Nat.{ℕ, _/_, _%_, _<_, _≤_}
+use Prim.Native.Nat.{ℕ, _<_}
 use native.Mathlib.Omega.{arith}
 use borrow.Author.Tests.{eqb-true, eqb-false}
 use lib.Dec.{eqb}
-use lib.ListN.{length, getD, set, replicate, length-set, getD-replicate}
+use lib.ListN.{length, length-set, getD-replicate}
 use lib.Seq.{getD-set-same, getD-set-other}
 use Rattle.octets.specs.Runs.{each, emitted}
 use Rattle.octets.proofs.LawsRuns.{emitted-append}
@@ -24,9 +24,8 @@ use Rattle.command.specs.declared.view.Effect.{Effect}
 use Rattle.command.specs.declared.view.Effect.the-variants.{None, Reset, Powered}
 use Rattle.command.specs.View.{viewOf}
 use Rattle.engine.specs.Decide.{decide}
-use Rattle.command.specs.Reply.{headerOf}
 use Rattle.engine.specs.Engine.{linkOf, isSetUp, affect, settled, engine}
-use Rattle.engine.specs.Merged.{deviceStep, deviceAfter, isReset, effectOf, Item, whole, only, effectItem, itemOf, merged, isAnswered, repliesOn, moved, viewStep, viewAfter, replyTo, itemReplies, viewReplies}
+use Rattle.engine.specs.Merged.{deviceStep, deviceAfter, isReset, effectOf, whole, effectItem, itemOf, merged, isAnswered, repliesOn, moved, viewStep, viewAfter, replyTo, itemReplies, viewReplies}
 use Rattle.engine.proofs.EffectsByOctets.{decide-effect}
 
 -- ---- one body

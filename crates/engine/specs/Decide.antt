@@ -64,13 +64,13 @@ pub record Decision : Type 0 where
 abbrev pub withStatus : Link → ℕ → Link
 withStatus l s = record { status = s; numbers = l .numbers; name = l .name; ports = l .ports }
 
-unfoldable pub stated : Link → ℕ → ℕ → Decision
-stated l h s = record { effect = effect.None; link = withStatus l s; reply = statusReply h s }
+unfoldable pub reported : Link → ℕ → ℕ → Decision
+reported l h s = record { effect = effect.None; link = withStatus l s; reply = statusReply h s }
 
 -- "A refusal changes only that link's last status. NOOP sets it to 0; other successes leave it."; RESET "announces 80 06 00 72"
 unfoldable pub decisionOf : View → ℕ → Judged → Decision
-decisionOf v h (stopped s) = stated (v .link) h s
-decisionOf v h noop = stated (v .link) h 0
+decisionOf v h (stopped s) = reported (v .link) h s
+decisionOf v h noop = reported (v .link) h 0
 decisionOf v h reset = record { effect = effect.Reset; link = v .link; reply = statusReply 0x80 114 }
 decisionOf v h (success e l reply) = record { effect = e; link = l; reply = reply }
 

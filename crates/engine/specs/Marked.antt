@@ -1,6 +1,6 @@
 -- 01, Bodies and their replies: the marked ones.
 use Prim.Native.Nat.{ℕ}
-use mathlib.Core.List.{List, [], _∷_, map}
+use mathlib.Core.List.{List, [], _∷_}
 use lib.ListN.{replicate}
 use Rattle.octets.specs.Runs.{emitted}
 use Rattle.device.specs.Setup.{setupFor}

@@ -18,7 +18,7 @@ ghost use Prim.Native.Nat.{_≤_, _<_};
 ghost use lib.ListN.{length};
 ghost use Rattle.property.specs.Rule.{rowRule};
 ghost use Rattle.device.specs.Rules.{settingsRule, linkRule};
-ghost use Rattle.engine.specs.Decide.{Did, stated, decisionOf, performed, reached, decide};
+ghost use Rattle.engine.specs.Decide.{Did, reported, decisionOf, performed, reached, decide};
 ghost use Rattle.command.specs.Reply.{content};
 ghost use Rattle.command.specs.View.{after};
 
@@ -30,9 +30,9 @@ pub struct Decided {
 }
 
 // A status, which becomes the link's last one.
-fn state(link: Link, header: u8, status: u8, out: &mut [u8]) -> Decided
+fn report_status(link: Link, header: u8, status: u8, out: &mut [u8]) -> Decided
     requires { ⌜ 61 ≤ length (now out) ⌝ }
-    ensures { λ r. ⌜ Did (stated link header status) r (now (out .entry)) (now (out .exit)) ⌝ }
+    ensures { λ r. ⌜ Did (reported link header status) r (now (out .entry)) (now (out .exit)) ⌝ }
 {
     let len = write_status(out, header, status);
     let mut changed = link;
@@ -61,7 +61,7 @@ fn conclude(
 {
     let len = write_reply(out, view.after(effect, link), header, command, row, payload);
     if Device::MOST_REPLY < len {
-        return state(view.link, header, status::INTERNAL_ERROR, out);
+        return report_status(view.link, header, status::INTERNAL_ERROR, out);
     }
     Decided { effect, link, len }
 }
@@ -82,7 +82,7 @@ fn reach(
     let outcome = performed.outcome;
     let link = performed.link;
     match outcome {
-        Outcome::Refused(status) => state(view.link, header, status, out),
+        Outcome::Refused(status) => report_status(view.link, header, status, out),
         Outcome::Done(effect) => conclude(view, effect, link, header, command, row, payload, out),
     }
 }
@@ -95,8 +95,8 @@ pub fn decide(view: View, body: &[u8], out: &mut [u8]) -> Decided
     let header = body[0];
     let link = view.link;
     match verdict_of(body) {
-        Verdict::Refuse(_, status) => state(link, header, status, out),
-        Verdict::Noop => state(link, header, 0, out),
+        Verdict::Refuse(_, status) => report_status(link, header, status, out),
+        Verdict::Noop => report_status(link, header, 0, out),
         Verdict::Reset => {
             // The announcement has transaction 0 and link 0, whoever asked.
             let len = write_status(out, 0x80, status::RESET_SOFTWARE);

@@ -15,7 +15,7 @@ use Rattle.octets.proofs.LawsTests.{by-test}
 use Rattle.packed.specs.Packed.{packed, packedIn, joined, numberIn, packedAt}
 use Rattle.packed.specs.declared.Packed.{Packed}
 use Rattle.packed.specs.declared.Packed.the-variants.{Number, Unreadable}
-use Rattle.packed.proofs.LawsPacked.{packed-last, packed-more, packed-room, number-none, number-last, number-take}
+use Rattle.packed.proofs.LawsPacked.{packed-last, packed-more, packed-room, number-none, number-take}
 
 -- what a reading of n up to `next` tells of the octets from `at` on
 pub record Spelled (xs : List ℕ) (at n next : ℕ) : Type 0 where
@@ -99,10 +99,6 @@ first-octet (suc k) at n next (x ∷ xs) e h =
 pub one-octet : (xs : List ℕ) (at n next : ℕ) → packedAt xs at ≡ Number n next → n < 128 → (getD xs at 0 ≡ n) × (next ≡ at + 1)
 unfolding packedAt
 one-octet xs at n next e h = rw (getD-drop at xs 0 0, add-zero at) at (first-octet 3 at n next (drop at xs) e h)
-
-pub of-octet : (xs : List ℕ) (at : ℕ) → at < length xs → getD xs at 0 < 128 → packedAt xs at ≡ Number (getD xs at 0) (at + 1)
-unfolding packedAt
-of-octet xs at l h = number-last xs at 3 (omega arith) l h
 
 pub same-octets : (xs ys : List ℕ) (at : ℕ) → take 3 (drop at xs) ≡ take 3 (drop at ys) → packedAt xs at ≡ packedAt ys at
 unfolding packedAt

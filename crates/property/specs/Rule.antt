@@ -1,5 +1,5 @@
 -- The rules of the two tables, which a lookup's caller may rely on.
-use Prim.Native.Nat.{ℕ, suc, _^_}
+use Prim.Native.Nat.{suc, _^_}
 use mathlib.Core.Bool.{Bool, true, false, cond, not, _&&_}
 use mathlib.Core.Path.{_≡_}
 use lib.Dec.{eqb, ltb, leb}

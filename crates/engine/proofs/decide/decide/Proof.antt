@@ -35,10 +35,10 @@ decide-spec =
     (s .pre .0, s .pre .1, verdict-reach _ _ _ _ (sym (v .verdict-of .ensures) ∙ d .command .given .1) .rule, search needs))
     (λ c. search needs)
     (λ c. let d = c .before .before .before .before .before in
-    rw (← d .before .before .verdict-of .ensures, d .status .given .1) (c .before .before .state .ensures))
+    rw (← d .before .before .verdict-of .ensures, d .status .given .1) (c .before .before .report-status .ensures))
     (λ c. search needs)
     (λ c. let d = c .before .before .before .before in
-    rw (← d .before .before .verdict-of .ensures, d .enum-told .given .1) (c .before .before .state2 .ensures))
+    rw (← d .before .before .verdict-of .ensures, d .enum-told .given .1) (c .before .before .report-status2 .ensures))
     (λ c. search needs)
     (λ c. let d = c .before .before .before .before in
     rw (← d .before .before .verdict-of .ensures, d .enum-told2 .given .1)

@@ -31,7 +31,7 @@ reach-spec =
     conclude-requires
     (λ c. search needs)
     (λ c. let d = c .before .before .before .before .before in
-    rw (← d .before .before .before .perform-on .ensures, d .outcome .given .1) (c .before .before .state .ensures))
+    rw (← d .before .before .before .perform-on .ensures, d .outcome .given .1) (c .before .before .report-status .ensures))
     (λ c. search needs)
     (λ c. let d = c .before .before .before .before .before in
     rw (← d .before .before .before .perform-on .ensures, d .outcome2 .given .1) (c .before .before .conclude .ensures)))

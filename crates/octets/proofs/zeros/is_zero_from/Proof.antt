@@ -3,9 +3,8 @@ use mathlib.Core.Path.{_≡_, refl, sym, _∙_}
 use Prim.Native.Nat.{_-_, _≤_}
 use native.Mathlib.Omega.{arith}
 use borrow.Author.Tests.{eq-eqb, ne-eqb}
-use lib.Dec.{eqb}
 use lib.ListN.{length, getD}
-use Rattle.octets.specs.Scanning.{allFrom, zerosFrom}
+use Rattle.octets.specs.Scanning.{zerosFrom}
 use Rattle.octets.proofs.LawsScanning.{scan-on, scan-stop, scan-end}
 use Rattle.octets.proofs.zeros.is_zero_from.Statement.{statement}
 use Rattle.octets.proofs.zeros.is_zero_from.Tie as tie

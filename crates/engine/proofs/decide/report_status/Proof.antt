@@ -1,13 +1,13 @@
 -- The link is the one given, with another status. Assumes nothing.
 use mathlib.Core.Path.{refl}
 use borrow.Author.Needs.{needs}
-use Rattle.engine.specs.Decide.{stated}
-use Rattle.engine.proofs.decide.state.Statement.{statement}
-use Rattle.engine.proofs.decide.state.Tie as tie
+use Rattle.engine.specs.Decide.{reported}
+use Rattle.engine.proofs.decide.report_status.Statement.{statement}
+use Rattle.engine.proofs.decide.report_status.Tie as tie
 
-pub state-spec : {M : Type 1} → statement M
-unfolding stated
-state-spec =
+pub report-status-spec : {M : Type 1} → statement M
+unfolding reported
+report-status-spec =
     tie.close
     (tie.spec
     (λ c κs. search needs)
