@@ -21,7 +21,9 @@ pub struct Held {
 }
 
 pub struct Link {
+    // The last status.
     pub status: u8,
+    // By the slots of the property table.
     pub numbers: [u32; slot::COUNT],
     pub name: Held,
     pub ports: Held,
