@@ -1,17 +1,19 @@
--- Laws of written frames: octets as they are sent, one by one, and a frame in the order in which it is written. Assumes nothing.
+-- Laws of written frames: octets as they are sent, one by one, a frame in the order in which it is written, and that a frame of octets
+-- is the frame of octets. Assumes nothing.
 use types.Run.{OneOf, miss}
 use denote.Enum.Declared.{tagOf}
 use mathlib.Core.Path.{_≡_, sym, ap, _∙_}
 use mathlib.Core.List.{List, [], _∷_, _++_, append-assoc}
-use Prim.Native.Nat.{ℕ, _+_, _<_, _≤_}
+use Prim.Native.Nat.{ℕ, zero, suc, _+_, _<_, _≤_}
 use native.Mathlib.Nat.{zero-add}
 use native.Mathlib.Omega.{arith}
 use lib.Bits.{bitXor}
 use lib.ListN.{length, getD, drop, length-append, drop-of-length-le}
 use lib.Seq.{sets-eq}
+use Rattle.octets.specs.Octets.{Octets}
 use Rattle.octets.specs.LittleEndian.{leOctets}
 use Rattle.octets.specs.Writing.{Wrote}
-use Rattle.octets.proofs.LawsLists.{drop-next}
+use Rattle.octets.proofs.LawsLists.{drop-next, octets-front, octets-back}
 use Rattle.octets.proofs.LawsLittleEndian.{length-le}
 use Rattle.octets.proofs.LawsRuns.{each-append}
 use Rattle.hdlc.specs.declared.kind.Kind.{Kind}
@@ -20,7 +22,7 @@ use Rattle.hdlc.specs.Kinds.{kindOf}
 use Rattle.hdlc.specs.Fcs.{fcs}
 use Rattle.hdlc.specs.Frame.{sent, stuffed, checked, frame, written, writing}
 use Rattle.hdlc.proofs.kind.Kind.{the-type as kind-type}
-use Rattle.hdlc.proofs.LawsKinds.{Tests, flags, escapes, skips, kind-tests}
+use Rattle.hdlc.proofs.LawsKinds.{Tests, by-octet, flags, escapes, skips, kind-tests}
 
 pub sent-plain : {k : Kind} (b : ℕ) → k ≡ kindOf b → k ≡ Plain → sent b ≡ b ∷ []
 unfolding sent
@@ -75,3 +77,23 @@ frame-written {out} body room w =
     let z = zero-add (length (frame body)) in
     let held = w .held ∙ sets-eq (frame body) out 0 (rw z room) ∙ ap (λ n. frame body ++ drop n out) z in
     λ i. record { count = (w .end ∙ z) i; output = held i }
+
+-- ---- a frame of octets is the frame of octets
+
+sent-octet : (b : ℕ) → Octets (sent b) → b < 256
+unfolding sent
+sent-octet =
+    by-octet (λ b. Octets (sent b) → b < 256) (λ o. omega arith) (λ o. omega arith) (λ o. omega arith) (λ o. omega arith) (λ o. omega arith)
+    (λ b t. simp (t .flag, t .escape, t .skipped) (λ o. o zero))
+
+stuffed-octets : (xs : List ℕ) → Octets (stuffed xs) → Octets xs
+unfolding stuffed
+stuffed-octets [] o k = o k
+stuffed-octets (x ∷ xs) o zero = sent-octet x (octets-front (sent x) (stuffed xs) o)
+stuffed-octets (x ∷ xs) o (suc k) = stuffed-octets xs (octets-back (sent x) (stuffed xs) o) k
+
+pub unframed-octets : (body : List ℕ) → Octets (frame body) → Octets body
+unfolding frame checked
+unframed-octets body o =
+    octets-front body (leOctets 2 (fcs body))
+    (stuffed-octets (checked body) (octets-front (stuffed (checked body)) (0x7e ∷ []) (λ k. o (suc k))))

@@ -1,11 +1,11 @@
 -- Laws of lists that the code's places and parts ask for. Assumes nothing.
 use mathlib.Core.Path.{_≡_, ap}
-use mathlib.Core.List.{List, [], _∷_}
+use mathlib.Core.List.{List, [], _∷_, _++_}
 use Prim.Native.Nat.{ℕ, zero, suc, _+_, _<_}
 use native.Mathlib.Omega.{arith}
 use native.Mathlib.Numerals.{add-one}
 use lib.ListN.{length, getD, take, drop, length-drop}
-use lib.Seq.{drop-cons, getD-drop}
+use lib.Seq.{drop-cons, getD-drop, take-append-seam, getD-append-add}
 use Rattle.octets.specs.Octets.{Octets}
 
 -- one element of what is left of a list, with the code's i + 1
@@ -27,3 +27,10 @@ octets-take zero xs o k = omega arith
 octets-take (suc n) [] o k = omega arith
 octets-take (suc n) (x ∷ xs) o zero = o zero
 octets-take (suc n) (x ∷ xs) o (suc k) = octets-take n xs (λ j. o (suc j)) k
+
+-- the two parts of a list of octets
+pub octets-front : (xs ys : List ℕ) → Octets (xs ++ ys) → Octets xs
+octets-front xs ys o = rw take-append-seam at (octets-take (length xs) (xs ++ ys) o)
+
+pub octets-back : (xs ys : List ℕ) → Octets (xs ++ ys) → Octets ys
+octets-back xs ys o k = rw getD-append-add at (o (length xs + k))
