@@ -1,13 +1,13 @@
 -- PROMISE: a frame that was written is read back. A fresh reader with any assembly buffer of 1,302 octets or more reads a body's frame to
 -- its last flag, with fate 1 where the top two header bits are 10 and fate 6 where not, and leaves body and check at the front of the
--- buffer. Assumes nothing.
+-- buffer; the frame's octets alone tell the same fate, with the body where it is 1, and leave nothing unfinished. Assumes nothing.
 use mathlib.Core.Path.{_≡_, refl, sym, ap, _∙_}
 use mathlib.Core.List.{List, [], _∷_, _++_}
 use Prim.Native.Nat.{ℕ, suc, _+_, _-_, _≤_}
 use native.Mathlib.Omega.{arith}
 use borrow.Author.Tests.{le-ltb, eq-eqb, ne-eqb}
 use lib.ListN.{length, take, drop, length-append}
-use lib.Seq.{take-at, drop-at, take-all}
+use lib.Seq.{take-at, drop-at, take-all, take-length}
 use Rattle.octets.specs.Octets.{Octets}
 use Rattle.octets.specs.LittleEndian.{le, leAt, leOctets}
 use Rattle.octets.proofs.LawsLittleEndian.{length-le}
@@ -16,14 +16,15 @@ use Rattle.hdlc.specs.Fcs.{fcs}
 use Rattle.hdlc.specs.Kinds.{isFlag}
 use Rattle.hdlc.specs.Frame.{Body, stuffed, checked, frame}
 use Rattle.hdlc.specs.Reading.{later, bodyOf, checkOf, judged, headed, mostGathered, fresh, held, outcome, run}
-use Rattle.hdlc.specs.Wire.{kept, gathered, cutEscape, verdict, grown, verdictAt, call}
+use Rattle.hdlc.specs.Wire.{kept, gathered, cutEscape, verdict, grown, finished, unfinished, told, verdicts, verdictAt, call, callReads}
 use Rattle.hdlc.specs.States.{readerAfter, over, holding, closed}
-use Rattle.hdlc.proofs.LawsFates.{headed-decided}
+use Rattle.hdlc.proofs.LawsFates.{headed-decided, told-headed}
 use Rattle.hdlc.proofs.LawsFcs.{fcs-bound}
 use Rattle.hdlc.proofs.LawsFrame.{checked-length}
 use Rattle.hdlc.proofs.LawsStuffing.{stuffed-gives, stuffed-passed}
 use Rattle.hdlc.proofs.LawsStates.{over-few}
 use Rattle.hdlc.proofs.ClosedForm.{call-closed}
+use Rattle.hdlc.proofs.LawsCalls.{reads}
 
 -- the first flag ends nothing
 first-flag : (xs : List ℕ) → call [] (0x7e ∷ xs) ≡ later 1 (call [] xs)
@@ -92,3 +93,16 @@ module _ (body : List ℕ) (size : Body body) (octets : Octets body) where
       → run (held fresh a) (frame body) ≡ outcome (headed body) (length (frame body)) fresh (checked body ++ drop (length body + 2) a)
   unfolding holding readerAfter over gathered cutEscape kept
   round-trip a room = call-closed (frame body) [] a room ∙ ap (λ c. closed c a) frame-call ∙ closed-frame a
+
+  -- ---- the frame, told by its octets alone
+
+  frame-reads : callReads [] (frame body) ≡ frame body
+  unfolding callReads
+  frame-reads = rw (frame-call, take-length)
+
+  pub frame-told : verdicts (finished [] (frame body)) ≡ told (headed body) body
+  unfolding checked
+  frame-told = (rw (frame-reads, frame-call, stuffed-gives (checked body) .0) at (reads (frame body) [] .tells)) ∙ told-headed body _
+
+  pub frame-leaves : unfinished [] (frame body) ≡ []
+  frame-leaves = rw (frame-reads, frame-call, headed-decided body) at (reads (frame body) [] .leaves)
