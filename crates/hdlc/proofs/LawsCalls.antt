@@ -53,7 +53,7 @@ reads (b ∷ bs) p =
 -- ---- the body stands first in the buffer
 
 -- a call's fate is that of the piece that it ended in, if it has one
-call-verdict : (xs p : List ℕ) → (call p xs .fate ≡ Unfinished) ⊎ (call p xs .fate ≡ verdict (call p xs .state))
+pub call-verdict : (xs p : List ℕ) → (call p xs .fate ≡ Unfinished) ⊎ (call p xs .fate ≡ verdict (call p xs .state))
 unfolding call verdictAt
 call-verdict [] p = inl refl
 call-verdict (b ∷ bs) p =

@@ -4,10 +4,11 @@ use mathlib.Core.Path.{_≡_, sym, ap, ap₂, subst, _∙_}
 use mathlib.Core.List.{List, [], _∷_, _++_, append-assoc}
 use Prim.Native.Nat.{ℕ, _-_, _/_, _≤_}
 use native.Mathlib.Omega.{arith}
+use borrow.Author.Tests.{ltb-false, eqb-true}
 use lib.Dec.{ltb, eqb}
 use lib.ListN.{length, getD, drop, take-append-drop}
 use lib.Seq.{length-take-le, take-length, take-append-seam, getD-take}
-use Rattle.octets.proofs.LawsTests.{by-test}
+use Rattle.octets.proofs.LawsTests.{by-test, impossible}
 use Rattle.hdlc.specs.declared.reader.Fate.the-variants.{Checked, BadHeader}
 use Rattle.hdlc.specs.Fcs.{fcs}
 use Rattle.hdlc.specs.Reading.{decided, bodyOf, checkOf, headed, judged}
@@ -19,6 +20,19 @@ unfolding headed bodyOf
 headed-gathered g long =
     ap₂ (λ b n. cond (eqb (b / 64) 2) (Checked n) BadHeader) (getD-take (length g - 2) g 0 0 (omega arith))
     (length-take-le (length g - 2) g (omega arith))
+
+-- a checked body: its length and its header
+pub judged-checked : (g : List ℕ) (n : ℕ) → judged g ≡ Checked n → (4 ≤ length g) × (n ≡ length g - 2) × (getD g 0 0 / 64 ≡ 2)
+unfolding judged
+judged-checked g n =
+    by-test (ltb (length g) 4) (λ t. simp t (λ e. impossible cc))
+    (λ t.
+    let long = ltb-false _ _ t in
+    simp t
+    (by-test (eqb (checkOf g) (fcs (bodyOf g)))
+    (λ u. simp (u, headed-gathered g long)
+    (by-test (eqb (getD g 0 0 / 64) 2) (λ v. simp v (λ e. (long, cc, eqb-true _ _ v))) (λ v. simp v (λ e. impossible cc))))
+    (λ u. simp u (λ e. impossible cc))))
 
 pub headed-decided : (body : List ℕ) → decided (headed body) ≡ true
 unfolding headed

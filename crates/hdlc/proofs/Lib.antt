@@ -11,5 +11,6 @@ pub mod ClosedForm
 pub mod ReaderRules
 pub mod LawsCalls
 pub mod AnyCuts
+pub mod CheckedBodies
 pub mod RoundTrip
 pub mod Resynchronization
