@@ -46,7 +46,7 @@ use Rattle.command.proofs.LawsVerdict.{verdict-reach, verdict-reset}
 
 -- ---- the octets of a reset and of a power setting give their verdicts
 
-reset-verdict : (b : List ℕ) → isReset b ≡ true → verdictOf b ≡ verdict.Reset
+pub reset-verdict : (b : List ℕ) → isReset b ≡ true → verdictOf b ≡ verdict.Reset
 unfolding verdictOf byCommand packedAt numberIn isReset
 reset-verdict [] t = impossible (eqb-true 0 1 t)
 reset-verdict (h ∷ []) t = impossible (eqb-true 0 1 t)
