@@ -66,7 +66,7 @@ pub body-not-set-up : (d : Device) (b : List ℕ) → isSetUp (d .settings) b �
 unfolding engine
 body-not-set-up d b e = cc
 
-step-settings : (d : Device) (b : List ℕ) → deviceStep d b .settings ≡ d .settings
+pub step-settings : (d : Device) (b : List ℕ) → deviceStep d b .settings ≡ d .settings
 step-settings d b =
     by-test (isSetUp (d .settings) b)
     (λ e. ap (λ x. x .settings) (body-set-up d b e) ∙ affect-settings (effectOf b) d (linkOf b) (decide (viewOf (linkOf b) d) b .link))
@@ -141,6 +141,11 @@ step-replies d b k =
     answered false t = unfold viewReplies itemReplies in rw t
 
 -- ---- any bodies
+
+pub settings-after : (d : Device) (bs : List (List ℕ)) → deviceAfter d bs .settings ≡ d .settings
+unfolding deviceAfter
+settings-after d [] = refl
+settings-after d (b ∷ bs) = settings-after (deviceStep d b) bs ∙ step-settings d b
 
 pub view-after : (k : ℕ) → k < 4 → (d : Device) (bs : List (List ℕ)) → length (d .links) ≡ 4
     → viewOf k (deviceAfter d bs) ≡ viewAfter (viewOf k d) (merged (d .settings) k bs)
