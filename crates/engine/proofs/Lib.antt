@@ -1,6 +1,7 @@
 pub mod LawsJudged
 pub mod EffectsByOctets
 pub mod Separation
+pub mod LawsRepliesInOrder
 pub mod RulesKept
 pub mod ReplyBounds
 pub mod ReplyHeader

@@ -16,7 +16,8 @@ use Rattle.command.specs.Value.{fixedValue, numberValue, valueOf}
 use Rattle.engine.specs.Decide.{replying, concluded, reached, judgedBy, judged, reported, decisionOf, decide}
 use Rattle.command.specs.Reply.{statusReply, replyCommand, content, replied}
 use Rattle.engine.specs.Engine.{linkOf, isSetUp, affect, settled, engine}
-use Rattle.engine.specs.Marked.{freshBox, repliesTo, marked}
+use Rattle.engine.specs.Merged.{repliesTo}
+use Rattle.engine.specs.Marked.{freshBox, marked}
 
 pub marked-bodies : map (λ l. repliesTo freshBox (l .bodies)) marked ≡ map (λ l. l .replies) marked
 unfolding before le leOctets pad packed packedIn joined numberIn packedAt rows lookupIn lookup allows numbers within

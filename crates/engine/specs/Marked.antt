@@ -2,19 +2,12 @@
 use Prim.Native.Nat.{ℕ}
 use mathlib.Core.List.{List, [], _∷_}
 use lib.ListN.{replicate}
-use Rattle.octets.specs.Runs.{emitted}
 use Rattle.device.specs.Setup.{setupFor}
 use Rattle.device.specs.declared.state.Device.{Device}
-use Rattle.engine.specs.Engine.{engine}
-use Rattle.engine.specs.Merged.{deviceStep}
 
 -- "Fresh box with two links before each line"
 unfoldable pub freshBox : Device
 freshBox = setupFor 2 0 [] (replicate 8 0) .device
-
--- one reply to each body, in order
-unfoldable pub repliesTo : Device → List (List ℕ) → List (List ℕ)
-repliesTo d bs = emitted (λ e b. engine e b .reply ∷ []) deviceStep d bs
 
 -- bodies joined by "then", and their replies
 pub record Line : Type 0 where

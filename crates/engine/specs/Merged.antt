@@ -1,7 +1,7 @@
 -- Sequences of bodies, and what one link has to do with them (01, Whole histories).
 use Prim.Native.Nat.{ℕ}
 use mathlib.Core.Bool.{Bool, cond, not, _&&_}
-use mathlib.Core.List.{List, [], _∷_, foldl}
+use mathlib.Core.List.{List, [], _∷_, _++_, foldl}
 use lib.Dec.{eqb, leb}
 use lib.ListN.{length, getD}
 use Rattle.octets.specs.Runs.{each, emitted}
@@ -23,6 +23,10 @@ deviceStep d b = engine d b .device
 
 unfoldable pub deviceAfter : Device → List (List ℕ) → Device
 deviceAfter d bs = foldl deviceStep d bs
+
+-- one reply to each body, in order
+unfoldable pub repliesTo : Device → List (List ℕ) → List (List ℕ)
+repliesTo d bs = emitted (λ e b. engine e b .reply ∷ []) deviceStep d bs
 
 -- ---- effects, told by the octets
 
@@ -66,6 +70,12 @@ isAnswered s k b = eqb (linkOf b) k && not (isSetUp s b && isReset b)
 
 unfoldable pub repliesOn : ℕ → Device → List (List ℕ) → List (List ℕ)
 repliesOn k d bs = emitted (λ e b. cond (isAnswered (e .settings) k b) (engine e b .reply ∷ []) []) deviceStep d bs
+
+-- a reply belongs to the body at its place; of replies to bodies, one to each, those to link k's bodies but resets
+unfoldable pub picked : {A : Type 0} → Settings → ℕ → List (List ℕ) → List A → List A
+picked s k [] rs = []
+picked s k (b ∷ bs) [] = []
+picked s k (b ∷ bs) (r ∷ rs) = cond (isAnswered s k b) (r ∷ []) [] ++ picked s k bs rs
 
 -- ---- the same for the link alone, which knows nothing but its view and its merged sequence
 

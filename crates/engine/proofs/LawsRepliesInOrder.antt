@@ -1,0 +1,28 @@
+-- The replies to bodies one after the other: one to each, in order; a link's are those at the places of its bodies. Assumes nothing.
+use mathlib.Core.Path.{_≡_, refl, ap}
+use mathlib.Core.List.{List, [], _∷_, _++_, map}
+use Prim.Native.Nat.{ℕ, suc}
+use lib.ListN.{length}
+use Rattle.octets.proofs.LawsRuns.{emitted-append}
+use Rattle.octets.proofs.LawsTests.{by-test}
+use Rattle.device.specs.declared.state.Device.{Device}
+use Rattle.engine.specs.Merged.{deviceStep, deviceAfter, repliesTo, isAnswered, repliesOn, picked}
+use Rattle.engine.proofs.Separation.{step-settings}
+
+pub replies-append : (d : Device) (bs cs : List (List ℕ)) → repliesTo d (bs ++ cs) ≡ repliesTo d bs ++ repliesTo (deviceAfter d bs) cs
+unfolding repliesTo deviceAfter
+replies-append d bs cs = emitted-append _ deviceStep d bs cs
+
+pub one-each : (d : Device) (bs : List (List ℕ)) → length (repliesTo d bs) ≡ length bs
+unfolding repliesTo
+one-each d [] = refl
+one-each d (b ∷ bs) = ap suc (one-each (deviceStep d b) bs)
+
+-- f is what becomes of a reply, as its frame
+pub picked-replies : {A : Type 0} (f : List ℕ → A) (k : ℕ) (d : Device) (bs : List (List ℕ))
+    → picked (d .settings) k bs (map f (repliesTo d bs)) ≡ map f (repliesOn k d bs)
+unfolding picked repliesTo repliesOn
+picked-replies f k d [] = refl
+picked-replies f k d (b ∷ bs) =
+    let rest = rw (step-settings d b) at (picked-replies f k (deviceStep d b) bs) in
+    by-test (isAnswered (d .settings) k b) (λ e. cc) (λ e. cc)
