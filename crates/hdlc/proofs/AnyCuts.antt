@@ -17,7 +17,7 @@ use Rattle.hdlc.specs.Rules.{Rules}
 use Rattle.hdlc.specs.Wire.{ended, grown, finished, unfinished, told, verdicts, call, callReads, wire}
 use Rattle.hdlc.specs.States.{holding, openPiece, closed}
 use Rattle.hdlc.specs.Histories.{callsTell, callsLeave, offers, offered, chunked}
-use Rattle.hdlc.proofs.LawsCalls.{After, reads, told-call, after-call, closed-told, reads-all, reads-some}
+use Rattle.hdlc.proofs.LawsCalls.{After, after-call, call-tells, reads-all, reads-some}
 use Rattle.hdlc.proofs.ClosedForm.{call-closed, open-holds}
 use Rattle.hdlc.proofs.ReaderRules.{fresh-rules}
 
@@ -32,17 +32,14 @@ calls-tell : (xss : List (List ℕ)) (p a : List ℕ) → mostGathered ≤ lengt
 unfolding callsTell callsLeave wire finished unfinished verdicts
 calls-tell [] p a room = record { tells = refl; leaves = record { under = a; room = room; state = refl } }
 calls-tell (xs ∷ xss) p a room =
-    let c = call p xs in
     let w = callReads p xs in
     let q = unfinished p w in
     let s = after-call p a xs room in
     let rest : Tells q (wire q xss) (run (holding p a) xs .state) xss =
     subst (λ h. Tells q (wire q xss) h xss) (sym (s .state)) (calls-tell xss q (s .under) (s .room)) in
-    let first : told (run (holding p a) xs .fate) (run (holding p a) xs .state .assembly) ≡ verdicts (finished p w) =
-    ap (λ o. told (o .fate) (o .state .assembly)) (call-closed xs p a room) ∙ closed-told c a ∙ told-call p a xs ∙ sym (reads xs p .tells) in
     record {
       tells =
-          ap₂ _++_ first (rest .tells)
+          ap₂ _++_ (call-tells p a xs room) (rest .tells)
           ∙ sym (ap verdicts (emitted-append ended grown p w (wire q xss)) ∙ each-append _ (finished p w) (finished q (wire q xss)));
       leaves = subst (λ z. After z (callsLeave (run (holding p a) xs .state) xss)) (sym (foldl-append grown p w (wire q xss))) (rest .leaves);
     }

@@ -70,7 +70,7 @@ told-over p a =
     (λ v. simp v
     (ap (told (judged (gathered p))) (over-few (gathered p) a (ltb-false _ _ t)) ∙ told-judged (gathered p) _))))))
 
-pub told-call : (p a xs : List ℕ) → told (call p xs .fate) (over (gathered (call p xs .state)) a) ≡ told (call p xs .fate) (gathered (call p xs .state))
+told-call : (p a xs : List ℕ) → told (call p xs .fate) (over (gathered (call p xs .state)) a) ≡ told (call p xs .fate) (gathered (call p xs .state))
 unfolding told
 told-call p a xs =
     let q = call p xs .state in
@@ -107,9 +107,15 @@ after-call p a xs room =
     })
     (λ t. record { under = a; room = room; state = is ∙ undecided-state c a t ∙ ap (λ z. holding z a) (sym (left ∙ simp t)) })
 
-pub closed-told : (c : Call) (a : List ℕ) → told (closed c a .fate) (closed c a .state .assembly) ≡ told (c .fate) (over (gathered (c .state)) a)
+closed-told : (c : Call) (a : List ℕ) → told (closed c a .fate) (closed c a .state .assembly) ≡ told (c .fate) (over (gathered (c .state)) a)
 unfolding closed
 closed-told c a = refl
+
+-- what a call tells is the verdict of the piece that it finished, if any
+pub call-tells : (p a xs : List ℕ) → mostGathered ≤ length a
+    → told (run (holding p a) xs .fate) (run (holding p a) xs .state .assembly) ≡ verdicts (finished p (callReads p xs))
+call-tells p a xs room =
+    ap (λ o. told (o .fate) (o .state .assembly)) (call-closed xs p a room) ∙ closed-told (call p xs) a ∙ told-call p a xs ∙ sym (reads xs p .tells)
 
 -- ---- how much it reads
 

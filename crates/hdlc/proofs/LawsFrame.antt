@@ -13,7 +13,7 @@ use lib.Seq.{sets-eq}
 use Rattle.octets.specs.Octets.{Octets}
 use Rattle.octets.specs.LittleEndian.{leOctets}
 use Rattle.octets.specs.Writing.{Wrote}
-use Rattle.octets.proofs.LawsLists.{drop-next, octets-front, octets-back}
+use Rattle.octets.proofs.LawsLists.{drop-next, octets-front, octets-rest}
 use Rattle.octets.proofs.LawsLittleEndian.{length-le}
 use Rattle.octets.proofs.LawsRuns.{each-append}
 use Rattle.hdlc.specs.declared.kind.Kind.{Kind}
@@ -90,7 +90,7 @@ stuffed-octets : (xs : List ℕ) → Octets (stuffed xs) → Octets xs
 unfolding stuffed
 stuffed-octets [] o k = o k
 stuffed-octets (x ∷ xs) o zero = sent-octet x (octets-front (sent x) (stuffed xs) o)
-stuffed-octets (x ∷ xs) o (suc k) = stuffed-octets xs (octets-back (sent x) (stuffed xs) o) k
+stuffed-octets (x ∷ xs) o (suc k) = stuffed-octets xs (octets-rest (sent x) (stuffed xs) o) k
 
 pub unframed-octets : (body : List ℕ) → Octets (frame body) → Octets body
 unfolding frame checked

@@ -32,5 +32,5 @@ octets-take (suc n) (x ∷ xs) o (suc k) = octets-take n xs (λ j. o (suc j)) k
 pub octets-front : (xs ys : List ℕ) → Octets (xs ++ ys) → Octets xs
 octets-front xs ys o = rw take-append-seam at (octets-take (length xs) (xs ++ ys) o)
 
-pub octets-back : (xs ys : List ℕ) → Octets (xs ++ ys) → Octets ys
-octets-back xs ys o k = rw getD-append-add at (o (length xs + k))
+pub octets-rest : (xs ys : List ℕ) → Octets (xs ++ ys) → Octets ys
+octets-rest xs ys o k = rw getD-append-add at (o (length xs + k))
