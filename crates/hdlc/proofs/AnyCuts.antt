@@ -14,7 +14,7 @@ use Rattle.hdlc.specs.declared.reader.Reader.{Reader}
 use Rattle.hdlc.specs.Frame.{stuffed}
 use Rattle.hdlc.specs.Reading.{decided, mostGathered, fresh, Held, held, run}
 use Rattle.hdlc.specs.Rules.{Rules}
-use Rattle.hdlc.specs.Wire.{ended, grown, finished, unfinished, told, verdicts, call, callReads, wire}
+use Rattle.hdlc.specs.Wire.{ended, grown, finished, unfinished, verdicts, call, callReads, wire}
 use Rattle.hdlc.specs.States.{holding, openPiece, closed}
 use Rattle.hdlc.specs.Histories.{callsTell, callsLeave, offers, offered, chunked}
 use Rattle.hdlc.proofs.LawsCalls.{After, after-call, call-tells, reads-all, reads-some}
