@@ -5,12 +5,11 @@ use mathlib.Core.List.{List, [], _∷_}
 use Prim.Native.Nat.{ℕ, suc, _+_, _*_, _-_, _≤_, _<_}
 use native.Mathlib.Omega.{arith}
 use borrow.Author.Tests.{eq-eqb, ne-eqb, lt-ltb, le-ltb}
-use lib.Dec.{eqb}
 use lib.ListN.{length, getD, take, drop, length-drop}
 use Rattle.octets.specs.LittleEndian.{le, leAt}
 use Rattle.octets.specs.Finding.{before}
 use Rattle.octets.proofs.LawsLists.{drop-next}
-use Rattle.octets.proofs.LawsTests.{chosen}
+use Rattle.octets.proofs.LawsFinding.{before-most}
 use Rattle.device.specs.State.{portsIn, holds, distinct}
 
 -- two octets and what follows them
@@ -57,11 +56,6 @@ unfolding portsIn
 ports-length [] = (omega arith, omega arith)
 ports-length (x ∷ []) = (omega arith, omega arith)
 ports-length (x ∷ y ∷ xs) = let few = ports-length xs in (omega arith, omega arith)
-
-pub before-most : (v : ℕ) (xs : List ℕ) → before v xs ≤ length xs
-unfolding before
-before-most v [] = omega arith
-before-most v (x ∷ xs) = chosen (λ n. n ≤ suc (length xs)) (eqb x v) (λ e. omega arith) (λ e. omega (arith, before-most v xs))
 
 -- ---- the place at which a port is found
 

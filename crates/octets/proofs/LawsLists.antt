@@ -1,16 +1,20 @@
 -- Laws of lists that the code's places and parts ask for. Assumes nothing.
 use mathlib.Core.Path.{_≡_, ap}
 use mathlib.Core.List.{List, [], _∷_, _++_}
-use Prim.Native.Nat.{ℕ, zero, suc, _+_, _<_}
+use Prim.Native.Nat.{ℕ, zero, suc, _+_, _-_, _<_}
 use native.Mathlib.Omega.{arith}
 use native.Mathlib.Numerals.{add-one}
 use lib.ListN.{length, getD, take, drop, length-drop}
-use lib.Seq.{drop-cons, getD-drop, take-append-seam, getD-append-add}
+use lib.Seq.{drop-cons, getD-drop, take-all, take-append-seam, getD-append-add}
 use Rattle.octets.specs.Octets.{Octets}
 
 -- one element of what is left of a list, with the code's i + 1
 pub drop-next : (xs : List ℕ) (i : ℕ) → i < length xs → drop i xs ≡ getD xs i 0 ∷ drop (i + 1) xs
 drop-next xs i h = rw (add-one, drop-cons xs i 0)
+
+-- what is left of a list, as the code's &xs[i..] cuts it
+pub take-rest : (xs : List ℕ) (i : ℕ) → take (length xs - i) (drop i xs) ≡ drop i xs
+take-rest xs i = take-all (length xs - i) (drop i xs) (omega (arith, length-drop i xs))
 
 -- what is left of a list, by its first element
 pub front : (xs : List ℕ) (at x : ℕ) (ys : List ℕ) → drop at xs ≡ x ∷ ys → (getD xs at 0 ≡ x) × (at < length xs) × (drop (at + 1) xs ≡ ys)

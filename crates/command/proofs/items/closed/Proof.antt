@@ -1,18 +1,14 @@
 -- What stands before the place and what stands behind it, one behind the other. Assumes nothing.
-use mathlib.Core.Path.{_≡_, sym}
-use mathlib.Core.List.{List}
-use Prim.Native.Nat.{ℕ, _+_, _-_}
+use mathlib.Core.Path.{sym}
+use Prim.Native.Nat.{_+_}
 use native.Mathlib.Omega.{arith}
 use borrow.Author.Needs.{needs}
-use lib.ListN.{length, take, drop, length-drop}
-use lib.Seq.{length-take-le, take-all}
+use lib.ListN.{length-drop}
+use lib.Seq.{length-take-le}
+use Rattle.octets.proofs.LawsLists.{take-rest}
 use Rattle.command.specs.Perform.{without}
 use Rattle.command.proofs.items.closed.Statement.{statement}
 use Rattle.command.proofs.items.closed.Tie as tie
-
--- the octets from a place to the end, as the code cuts them
-take-rest : (xs : List ℕ) (n : ℕ) → take (length xs - n) (drop n xs) ≡ drop n xs
-take-rest xs n = take-all (length xs - n) (drop n xs) (omega (arith, length-drop n xs))
 
 of-requires : tie.Need-of-requires
 of-requires c κs =

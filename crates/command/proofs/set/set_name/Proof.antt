@@ -9,7 +9,7 @@ use borrow.Author.Tests.{eq-eqb, ne-eqb}
 use lib.ListN.{length}
 use lib.Seq.{length-take-le}
 use Rattle.octets.specs.Finding.{before}
-use Rattle.device.proofs.LawsPorts.{before-most}
+use Rattle.octets.proofs.LawsFinding.{before-most}
 use Rattle.device.proofs.LawsRules.{text-told}
 use Rattle.command.specs.Perform.{setName}
 use Rattle.command.proofs.set.set_name.Statement.{statement}

@@ -1,18 +1,12 @@
 -- A verdict that a command reaches a property tells that the row keeps the table's rule and that the payload starts in the body. Assumes nothing.
-use Prim.Native.Nat.{ℕ, _-_}
-use mathlib.Core.List.{List}
-use mathlib.Core.Path.{_≡_, refl, sym, _∙_}
+use mathlib.Core.Path.{refl, sym, _∙_}
 use native.Mathlib.Omega.{arith}
 use borrow.Author.Needs.{needs}
-use lib.ListN.{length, take, drop, length-drop}
-use lib.Seq.{take-all}
+use Rattle.octets.proofs.LawsLists.{take-rest}
 use Rattle.engine.specs.Decide.{decisionOf, judgedBy, judged, decide}
 use Rattle.command.proofs.LawsVerdict.{verdict-reach, payload-start}
 use Rattle.engine.proofs.decide.decide.Statement.{statement}
 use Rattle.engine.proofs.decide.decide.Tie as tie
-
-rest : (xs : List ℕ) (k : ℕ) → take (length xs - k) (drop k xs) ≡ drop k xs
-rest xs k = take-all (length xs - k) (drop k xs) (omega (arith, length-drop k xs))
 
 pub decide-spec : {M : Type 1} → statement M
 unfolding decide judged judgedBy decisionOf
@@ -45,5 +39,5 @@ decide-spec =
     (record { effect = refl; link = refl; reply = c .before .before .write-status .ensures }))
     (λ c. search needs)
     (λ c. let d = c .before .before .before .before .before .before in
-    rw (← d .before .before .verdict-of .ensures, d .command .given .1, ← rest _ (d .command .given .0 .1 .1 .0))
+    rw (← d .before .before .verdict-of .ensures, d .command .given .1, ← take-rest _ (d .command .given .0 .1 .1 .0))
     (c .before .before .reach .ensures)))
