@@ -3,23 +3,18 @@
 use mathlib.Core.Path.{_≡_, refl, sym, _∙_}
 use mathlib.Core.Bool.{Bool, true, false, not, _&&_, _||_, and-comm}
 use mathlib.Core.List.{List}
-use Prim.Native.Nat.{ℕ, zero, suc, _≤_}
+use Prim.Native.Nat.{ℕ, zero, suc, _≤_, _<_}
 use native.Mathlib.Omega.{arith}
-use borrow.Author.Tests.{eqb-true, eqb-false, leb-true}
-use lib.Dec.{eqb, ltb, leb}
+use borrow.Author.Tests.{eqb-true, eqb-false}
+use lib.Dec.{eqb, leb}
 use lib.ListN.{length, getD, set}
 use lib.Seq.{getD-set-same, getD-set-other}
 use Rattle.octets.proofs.LawsScanning.{all-at}
-use Rattle.octets.proofs.LawsTests.{by-test, impossible}
+use Rattle.octets.proofs.LawsTests.{by-test}
 use Rattle.property.specs.Numbers.{bool, numbers, numberAt, interfaceUp, stackUp, within}
 use Rattle.device.specs.Rules.{inRange, stackRule}
 use Rattle.command.specs.Perform.{conflicts}
-
-bool-small : (x : ℕ) → within bool x ≡ true → x ≤ 1
-unfolding within
-bool-small x t =
-    by-test (ltb 255 x) (λ e. let t' = rw e at t in impossible cc)
-    (λ e. by-test (ltb x 0) (λ f. let t' = rw (e, f) at t in impossible cc) (λ f. leb-true x 1 (rw (e, f) at t)))
+use Rattle.command.proofs.LawsNumbers.{within-most}
 
 -- of two bools, the stack's and the interface's
 up-without : (stack interface : ℕ) → stack ≤ 1 → interface ≤ 1 → eqb stack 1 && eqb interface 0 ≡ not (leb stack interface)
@@ -32,11 +27,10 @@ up-without (suc zero) (suc (suc n)) p q = absurd (omega arith)
 up-without (suc (suc n)) interface p q = absurd (omega arith)
 
 module _ (held : List ℕ) (nine : length held ≡ 9) (range : inRange held ≡ true) (stack : stackRule held ≡ true) where
-  stack-small : getD held stackUp 0 ≤ 1
-  stack-small = unfold inRange numbers in bool-small _ (all-at 9 (λ slot. within (numberAt slot) (getD held slot 0)) range stackUp (omega arith))
-
-  interface-small : getD held interfaceUp 0 ≤ 1
-  interface-small = unfold inRange numbers in bool-small _ (all-at 9 (λ slot. within (numberAt slot) (getD held slot 0)) range interfaceUp (omega arith))
+  -- a bool that is held
+  small : (slot : ℕ) → slot < 9 → numberAt slot ≡ bool → getD held slot 0 ≤ 1
+  unfolding inRange
+  small slot h is = within-most bool _ refl (rw is at (all-at 9 (λ k. within (numberAt k) (getD held k 0)) range slot h))
 
   pub conflict-test : (slot v : ℕ) → within (numberAt slot) v ≡ true → conflicts held slot v ≡ not (stackRule (set held slot v))
   unfolding conflicts stackRule numbers
@@ -44,11 +38,13 @@ module _ (held : List ℕ) (nine : length held ≡ 9) (range : inRange held ≡ 
       by-test (eqb slot stackUp)
       (λ e. let five : slot ≡ stackUp = eqb-true slot stackUp e in
       rw (five, getD-set-same held stackUp v 0 (omega arith), getD-set-other held stackUp interfaceUp v 0 (λ q. omega arith))
-      (either (eqb v 1 && eqb (getD held interfaceUp 0) 0) ∙ up-without v (getD held interfaceUp 0) (bool-small v (rw five at w)) interface-small))
+      (either (eqb v 1 && eqb (getD held interfaceUp 0) 0)
+      ∙ up-without v (getD held interfaceUp 0) (within-most bool v refl (rw five at w)) (small interfaceUp (omega arith) refl)))
       (λ e. by-test (eqb slot interfaceUp)
       (λ f. let four : slot ≡ interfaceUp = eqb-true slot interfaceUp f in
       rw (four, getD-set-same held interfaceUp v 0 (omega arith), getD-set-other held interfaceUp stackUp v 0 (λ q. omega arith))
-      (and-comm (eqb v 0) (eqb (getD held stackUp 0) 1) ∙ up-without (getD held stackUp 0) v stack-small (bool-small v (rw four at w))))
+      (and-comm (eqb v 0) (eqb (getD held stackUp 0) 1)
+      ∙ up-without (getD held stackUp 0) v (small stackUp (omega arith) refl) (within-most bool v refl (rw four at w))))
       (λ f. let same = getD-set-other held slot stackUp v 0 (λ q. eqb-false slot stackUp e (sym q)) in
       let other = getD-set-other held slot interfaceUp v 0 (λ q. eqb-false slot interfaceUp f (sym q)) in
       rw (e, f, same, other, stack)))

@@ -41,7 +41,7 @@ use Rattle.command.specs.Value.{valueOf}
 use Rattle.engine.specs.Decide.{replying, concluded, reached, judgedBy, judged, reported, decisionOf, decide}
 use Rattle.command.specs.Reply.{headerOf, replyCommand, content, replied}
 use Rattle.engine.specs.Merged.{isReset, isPower, effectOf}
-use Rattle.command.proofs.LawsNumbers.{power-most}
+use Rattle.command.proofs.LawsNumbers.{value-told, within-most}
 use Rattle.command.proofs.LawsVerdict.{verdict-reach, verdict-reset}
 
 -- ---- the octets of a reset and of a power setting give their verdicts
@@ -145,15 +145,7 @@ set-number n e =
     (λ u. by-test (eqb n 4) (λ w. let e' = rw (t, u, w) at e in impossible cc) (λ w. let e' = rw (t, u, w) at e in impossible cc)))
 
 good-value : (p : List ℕ) (x : ℕ) → valueIn powerState p ≡ Good x → (length p ≡ 1) × (le p ≡ x) × (x ≤ 4)
-unfolding valueIn
-good-value p x e =
-    by-test (eqb (length p) 1)
-    (λ t. by-test (within powerState (le p))
-    (λ u. let e' = rw (t, u) at e in
-    let same : le p ≡ x = cc in
-    (eqb-true (length p) 1 t, same, rw (← same) (power-most (le p) u)))
-    (λ u. let e' = rw (t, u) at e in impossible cc))
-    (λ t. let e' = rw t at e in impossible cc)
+good-value p x e = let t = value-told powerState p x e in (t .0, t .1, within-most powerState x refl (t .2))
 
 one-le : (xs : List ℕ) → length xs ≡ 1 → le xs ≡ getD xs 0 0
 unfolding le

@@ -1,9 +1,10 @@
 -- Each arm is a clause of the definition; a value of the power state fits an octet. Assumes nothing.
-use mathlib.Core.Path.{sym, _∙_}
+use mathlib.Core.Path.{refl, sym, _∙_}
 use native.Mathlib.Omega.{arith}
 use borrow.Author.Needs.{needs}
+use Rattle.property.specs.Numbers.{powerState}
 use Rattle.command.specs.Perform.{setPower, powerTo}
-use Rattle.command.proofs.LawsNumbers.{value-within, power-most}
+use Rattle.command.proofs.LawsNumbers.{value-within, within-most}
 use Rattle.command.proofs.set.set_power.Statement.{statement}
 use Rattle.command.proofs.set.set_power.Tie as tie
 
@@ -11,7 +12,7 @@ cast-t8 : tie.Need-cast-t8
 cast-t8 c =
     let d = c .before .before .before in
     let good = value-within _ _ _ (sym (d .read-number .ensures) ∙ c .before .value .given .1) in
-    let most = power-most _ (rw (d .before .power-state .ensures) at good) in
+    let most = within-most powerState _ refl (rw (d .before .power-state .ensures) at good) in
     omega arith
 
 pub set-power-spec : {M : Type 1} → statement M
