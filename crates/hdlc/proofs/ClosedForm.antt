@@ -15,7 +15,7 @@ use Rattle.hdlc.specs.Reading.{decided, mostGathered, gathering, overlon
 use Rattle.hdlc.specs.Rules.{Rules}
 use Rattle.hdlc.specs.Wire.{gathered, cutEscape, verdictAt, grown, call}
 use Rattle.hdlc.specs.States.{over, holding, openPiece, closed}
-use Rattle.hdlc.proofs.LawsStates.{over-few, over-more, gathering-state, overlong-state, fate-verdict, after-undecided, after-decided}
+use Rattle.hdlc.proofs.LawsStates.{over-few, over-more, over-length, gathering-state, overlong-state, fate-verdict, after-undecided, after-decided}
 use Rattle.hdlc.proofs.LawsStuffing.{stuffed-gives, spelled}
 
 -- ---- after a piece
@@ -76,3 +76,9 @@ open-holds r a keeps room = by-test (r .discarding) (overlong-open r a keeps roo
 
 pub closed-form : (r : Reader) (a xs : List ℕ) → Rules r → mostGathered ≤ length a → run (held r a) xs ≡ closed (call (openPiece r a) xs) a
 closed-form r a xs keeps room = ap (λ h. run h xs) (open-holds r a keeps room) ∙ call-closed xs (openPiece r a) a room
+
+-- no call changes the buffer's length
+pub same-room : (r : Reader) (a xs : List ℕ) → Rules r → mostGathered ≤ length a → length (run (held r a) xs .state .assembly) ≡ length a
+unfolding closed
+same-room r a xs keeps room =
+    ap (λ o. length (o .state .assembly)) (closed-form r a xs keeps room) ∙ over-length (gathered (call (openPiece r a) xs .state)) a room

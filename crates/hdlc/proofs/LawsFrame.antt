@@ -5,17 +5,16 @@ use denote.Enum.Declared.{tagOf}
 use mathlib.Core.Path.{_≡_, sym, ap, _∙_}
 use mathlib.Core.List.{List, [], _∷_, _++_, append-assoc}
 use Prim.Native.Nat.{ℕ, zero, suc, _+_, _<_, _≤_}
-use native.Mathlib.Nat.{zero-add}
 use native.Mathlib.Omega.{arith}
 use lib.Bits.{bitXor}
 use lib.ListN.{length, getD, drop, length-append, drop-of-length-le}
-use lib.Seq.{sets-eq}
 use Rattle.octets.specs.Octets.{Octets}
 use Rattle.octets.specs.LittleEndian.{leOctets}
 use Rattle.octets.specs.Writing.{Wrote}
 use Rattle.octets.proofs.LawsLists.{drop-next, octets-front, octets-rest}
 use Rattle.octets.proofs.LawsLittleEndian.{length-le}
 use Rattle.octets.proofs.LawsRuns.{each-append}
+use Rattle.octets.proofs.LawsWriting.{front-count, front-held}
 use Rattle.hdlc.specs.declared.kind.Kind.{Kind}
 use Rattle.hdlc.specs.declared.kind.Kind.the-variants.{Flag, Escape, Skipped, Plain}
 use Rattle.hdlc.specs.Kinds.{kindOf}
@@ -73,10 +72,7 @@ module _ (body : List ℕ) {check : List ℕ} (e : check ≡ leOctets 2 (fcs bod
 pub frame-written : {out out′ : List ℕ} {next : ℕ} (body : List ℕ) → length (frame body) ≤ length out
     → Wrote out out′ 0 next (frame body) → written next out′ ≡ writing body out
 unfolding writing
-frame-written {out} body room w =
-    let z = zero-add (length (frame body)) in
-    let held = w .held ∙ sets-eq (frame body) out 0 (rw z room) ∙ ap (λ n. frame body ++ drop n out) z in
-    λ i. record { count = (w .end ∙ z) i; output = held i }
+frame-written body room w = λ i. record { count = front-count room w i; output = front-held room w i }
 
 -- ---- a frame of octets is the frame of octets
 

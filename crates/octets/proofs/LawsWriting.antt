@@ -1,11 +1,11 @@
 -- Writers chain: one that goes on where another stopped wrote both. Assumes nothing.
 use mathlib.Core.Path.{_≡_, ap, ap₂, _∙_}
 use mathlib.Core.List.{List, [], _∷_, _++_}
-use Prim.Native.Nat.{ℕ, suc, _+_, _<_}
+use Prim.Native.Nat.{ℕ, suc, _+_, _<_, _≤_}
 use native.Mathlib.Omega.{arith}
-use native.Mathlib.Nat.{add-zero}
-use lib.ListN.{length, getD, drop, set, length-append}
-use lib.Seq.{sets}
+use native.Mathlib.Nat.{add-zero, zero-add}
+use lib.ListN.{length, getD, take, drop, set, length-append}
+use lib.Seq.{sets, sets-eq, take-append-seam}
 use Rattle.octets.specs.Writing.{Wrote}
 use Rattle.octets.proofs.LawsLists.{drop-next}
 
@@ -25,6 +25,17 @@ wrote-both {xs = xs} {ys = ys} v w =
       held = w .held ∙ wrote-then ys v;
       end = omega (arith, v .end, w .end, length-append xs ys);
     }
+
+-- what was written from the front stands there, and behind it what stood there before
+module _ {s t : List ℕ} {next : ℕ} {xs : List ℕ} (room : length xs ≤ length s) (w : Wrote s t 0 next xs) where
+  pub front-count : next ≡ length xs
+  front-count = w .end ∙ zero-add (length xs)
+
+  pub front-held : t ≡ xs ++ drop (length xs) s
+  front-held = let z = zero-add (length xs) in w .held ∙ sets-eq xs s 0 (rw z room) ∙ ap (λ n. xs ++ drop n s) z
+
+  pub front-taken : take next t ≡ xs
+  front-taken = rw (front-count, front-held) (take-append-seam xs (drop (length xs) s))
 
 -- what is still to be put, with its first octet put
 pub put-next : (l : List ℕ) (at i : ℕ) (xs : List ℕ) → i < length xs
