@@ -1,0 +1,80 @@
+-- PROMISE: a history does what its octets say. For every history its replies are the frames of the engine's replies to the checked
+-- bodies, one to each, in order; the octets that its calls say they read are those of 01, Whole histories; the box at its end is the
+-- engine's over the checked bodies. And for one more call, which may be any: its number, its count and the octets that it writes are
+-- those of the octets, so a reply is written by the call that reads its frame's closing flag, and refusal 11 never comes. Assumes nothing.
+use mathlib.Core.Logic.{_≢_}
+use mathlib.Core.Path.{_≡_, refl, sym, ap, _∙_}
+use mathlib.Core.List.{List, [], map}
+use Prim.Native.Nat.{ℕ, _≤_}
+use native.Mathlib.Omega.{arith}
+use lib.Dec.{ltb}
+use lib.ListN.{length, length-map}
+use Rattle.octets.proofs.LawsTests.{chosen}
+use Rattle.hdlc.specs.declared.reader.Fate.{Fate}
+use Rattle.hdlc.specs.declared.reader.Fate.the-variants.{Unfinished, Checked, Short, WrongCheck, TooLong, CutEscape, BadHeader}
+use Rattle.hdlc.specs.Frame.{frame, stuffed}
+use Rattle.hdlc.specs.Reading.{number, mostGathered, fresh, held}
+use Rattle.hdlc.specs.States.{openPiece}
+use Rattle.hdlc.specs.Wire.{call}
+use Rattle.hdlc.proofs.ClosedForm.{open-holds}
+use Rattle.hdlc.proofs.ReaderRules.{fresh-rules, rules-hold}
+use Rattle.device.specs.declared.state.Device.{Device}
+use Rattle.device.proofs.SetupKeepsRules.{setup-keeps}
+use Rattle.engine.specs.Merged.{repliesTo}
+use Rattle.engine.proofs.LawsRepliesInOrder.{one-each}
+use Rattle.serial.specs.Receiving.{numberOf, leastOutput}
+use Rattle.serial.specs.Histories.{Setup, deviceFrom, Call, lentFrom, History, start, endOf, gives, repliesIn, readIn, laid, bodies, Told, tells, meant, openAfter, deviceIn}
+use Rattle.serial.proofs.LawsHistories.{Stands, Step, step, Runs, runs}
+
+pub record Faithful (s : Setup) (h : History) : Type 0 where
+  pub replies : repliesIn s h ≡ map frame (repliesTo (deviceFrom s) (bodies h))
+  pub one-each : length (repliesIn s h) ≡ length (bodies h)
+  pub read : readIn s h ≡ laid h
+  pub device : endOf s h .device ≡ deviceIn s h
+  pub more : (c : Call) → tells (gives (endOf s h) c) ≡ meant (h .assembly) (openAfter h) (deviceIn s h) c
+  pub never-11 : (c : Call) → numberOf (gives (endOf s h) c .answer) ≢ 11
+
+-- ---- the start
+
+starts : (s : Setup) (a : List ℕ) → Stands a [] (start s a)
+unfolding openPiece stuffed
+starts s a =
+    record {
+      device = setup-keeps (s .links) (s .vendor) (s .text) (s .address);
+      reader = rules-hold fresh fresh-rules;
+      size = refl;
+      holds = λ room. record { under = a; room = room; state = open-holds fresh a fresh-rules room };
+    }
+
+-- ---- no call of a history is refused with 11
+
+few : (f : Fate) → number f ≤ 6
+few Unfinished = omega arith
+few (Checked n) = omega arith
+few Short = omega arith
+few WrongCheck = omega arith
+few TooLong = omega arith
+few CutEscape = omega arith
+few BadHeader = omega arith
+
+never : (a p : List ℕ) (d : Device) (c : Call) → meant a p d c .number ≢ 11
+unfolding meant
+never a p d c =
+    chosen (λ (m : Told). m .number ≢ 11) (ltb (length (lentFrom (c .lent) a)) mostGathered) (λ _ e. omega arith)
+    (λ _. chosen (λ (m : Told). m .number ≢ 11) (ltb (length (c .output)) leastOutput) (λ _ e. omega arith)
+    (λ _ e. omega (arith, few (call p (c .input) .fate))))
+
+pub faithful : (s : Setup) (h : History) → Faithful s h
+unfolding repliesIn readIn endOf laid bodies openAfter deviceIn tells
+faithful s h =
+    let r = runs (h .assembly) [] (start s (h .assembly)) (h .calls) (starts s (h .assembly)) in
+    let more : (c : Call) → tells (gives (endOf s h) c) ≡ meant (h .assembly) (openAfter h) (deviceIn s h) c =
+    λ c. step (h .assembly) (openAfter h) (endOf s h) c (r .stands) .tells ∙ ap (λ d. meant (h .assembly) (openAfter h) d c) (r .device) in
+    record {
+      replies = r .replies;
+      one-each = ap length (r .replies) ∙ length-map (repliesTo (deviceFrom s) (bodies h)) frame ∙ one-each (deviceFrom s) (bodies h);
+      read = r .read;
+      device = r .device;
+      more = more;
+      never-11 = λ c e. never (h .assembly) (openAfter h) (deviceIn s h) c (sym (ap (λ m. m .number) (more c)) ∙ e);
+    }

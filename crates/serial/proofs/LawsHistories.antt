@@ -1,0 +1,213 @@
+-- A history's calls, one by one and all: what stands between two calls, told by the octets read so far. Assumes nothing.
+use mathlib.Core.Path.{_≡_, refl, sym, ap, ap₂, _∙_}
+use mathlib.Core.Bool.{true, false, cond, _||_}
+use mathlib.Core.List.{List, [], _∷_, _++_, map, map-append, foldl, foldl-append}
+use Prim.Native.Nat.{ℕ, _≤_}
+use native.Mathlib.Omega.{arith}
+use borrow.Author.Tests.{ltb-false, lt-ltb}
+use lib.Dec.{eqb, ltb}
+use lib.ListN.{length, take}
+use Rattle.octets.proofs.LawsRuns.{each-append, emitted-append}
+use Rattle.octets.proofs.LawsTests.{by-test}
+use Rattle.hdlc.specs.Frame.{frame}
+use Rattle.hdlc.specs.Reading.{number, mostGathered, held, Outcome, run}
+use Rattle.hdlc.specs.Rules.{rules as readerRules}
+use Rattle.hdlc.specs.States.{holding, closed}
+use Rattle.hdlc.specs.Wire.{told as toldOf, verdicts, finished, ended, grown, unfinished, call, callReads}
+use Rattle.hdlc.proofs.ClosedForm.{call-closed, same-room}
+use Rattle.hdlc.proofs.LawsCalls.{After, after-call, call-tells}
+use Rattle.hdlc.proofs.ReaderRules.{rules-told, run-rules}
+use Rattle.device.specs.declared.state.Device.{Device}
+use Rattle.device.specs.Rules.{rules}
+use Rattle.engine.specs.Merged.{deviceStep, deviceAfter, repliesTo}
+use Rattle.engine.proofs.LawsRepliesInOrder.{replies-append}
+use Rattle.engine.proofs.RulesKept.{bodies-keep}
+use Rattle.serial.specs.declared.call.Answer.{Answer}
+use Rattle.serial.specs.declared.call.Answer.the-variants.{Read, SmallAssembly, SmallOutput}
+use Rattle.serial.specs.Receiving.{numberOf, leastOutput, breaksRules, refused, answered, receive}
+use Rattle.serial.specs.Histories.{Lent, own, short, Call, State, lentFrom, leftIn, gives, next, replyIn, repliesFrom, readFrom, isRefused, readBy, laidFrom, checkedOf, checkedIn, told, tells, meant}
+use Rattle.serial.proofs.LawsReceiving.{answered-device, answered-reply, answered-octets, answered-read}
+
+-- ---- octets end to end
+
+pub checked-append : (p xs ys : List ℕ) → checkedIn p (xs ++ ys) ≡ checkedIn p xs ++ checkedIn (unfinished p xs) ys
+unfolding checkedIn checkedOf verdicts finished unfinished
+checked-append p xs ys =
+    ap (λ ps. checkedOf (verdicts ps)) (emitted-append ended grown p xs ys)
+    ∙ ap checkedOf (each-append _ (finished p xs) (finished (unfinished p xs) ys))
+    ∙ each-append _ (verdicts (finished p xs)) (verdicts (finished (unfinished p xs) ys))
+
+pub unfinished-append : (p xs ys : List ℕ) → unfinished p (xs ++ ys) ≡ unfinished (unfinished p xs) ys
+unfolding unfinished
+unfinished-append p xs ys = foldl-append grown p xs ys
+
+pub device-append : (d : Device) (bs cs : List (List ℕ)) → deviceAfter d (bs ++ cs) ≡ deviceAfter (deviceAfter d bs) cs
+unfolding deviceAfter
+device-append d bs cs = foldl-append deviceStep d bs cs
+
+pub frames-append : (d : Device) (bs cs : List (List ℕ))
+    → map frame (repliesTo d (bs ++ cs)) ≡ map frame (repliesTo d bs) ++ map frame (repliesTo (deviceAfter d bs) cs)
+frames-append d bs cs = ap (map frame) (replies-append d bs cs) ∙ map-append frame (repliesTo d bs) (repliesTo (deviceAfter d bs) cs)
+
+-- ---- the lent buffer
+
+lent-size : (l : Lent) (a b : List ℕ) → length a ≡ length b → length (lentFrom l a) ≡ length (lentFrom l b)
+lent-size own a b e = e
+lent-size (short x h) a b e = refl
+
+lent-own : (l : Lent) (a : List ℕ) → ltb (length (lentFrom l a)) mostGathered ≡ false → l ≡ own
+lent-own own a e = refl
+lent-own (short x h) a e = absurd (omega (arith, ltb-false (length x) mostGathered e))
+
+left-same : (l : Lent) (a : List ℕ) → leftIn l a (lentFrom l a) ≡ a
+left-same own a = refl
+left-same (short x h) a = refl
+
+-- ---- between two calls
+
+-- behind an open piece p, in a history whose own buffer is as long as a
+pub record Stands (a p : List ℕ) (t : State) : Type 0 where
+  pub device : rules (t .device) ≡ true
+  pub reader : readerRules (t .reader) ≡ true
+  pub size : length (t .assembly) ≡ length a
+  pub holds : mostGathered ≤ length a → After p (held (t .reader) (t .assembly))
+
+-- a call, told by the octets w that it read
+pub record Step (a p w : List ℕ) (t : State) (c : Call) : Type 0 where
+  pub read : take (gives t c .read) (c .input) ≡ w
+  pub reply : replyIn (gives t c) ≡ map frame (repliesTo (t .device) (checkedIn p w))
+  pub device : next t c .device ≡ deviceAfter (t .device) (checkedIn p w)
+  pub stands : Stands a (unfinished p w) (next t c)
+  pub tells : tells (gives t c) ≡ meant a p (t .device) c
+
+module _ (a p : List ℕ) (t : State) (c : Call) (s : Stands a p t) where
+  keeps : breaksRules (t .device) (t .reader) ≡ false
+  unfolding breaksRules
+  keeps = rw (s .device, s .reader)
+
+  size : length (lentFrom (c .lent) (t .assembly)) ≡ length (lentFrom (c .lent) a)
+  size = lent-size (c .lent) (t .assembly) a (s .size)
+
+  -- a refused call leaves everything as it was
+  module _ (n : Answer) (other : eqb (numberOf n) 1 ≡ false) (g : gives t c ≡ refused n (t .device) (t .reader) (lentFrom (c .lent) (t .assembly)) (c .output)) where
+    same : next t c ≡ t
+    unfolding next
+    same =
+        let left = ap (λ q. leftIn (c .lent) (t .assembly) (q .assembly)) g ∙ left-same (c .lent) (t .assembly) in
+        λ i. record { device = g i .device; reader = g i .reader; assembly = left i }
+
+    refused-step : isRefused a c ≡ true → meant a p (t .device) c ≡ told (numberOf n) 0 [] → Step a p (readBy a p c) t c
+    unfolding readBy checkedIn checkedOf verdicts finished unfinished repliesTo deviceAfter next replyIn tells
+    refused-step e m =
+        rw e
+        (record {
+          read = ap (λ q. take (q .read) (c .input)) g;
+          reply = ap replyIn g ∙ simp other;
+          device = ap (λ q. q .device) g;
+          stands = rw same s;
+          tells = ap tells g ∙ sym m;
+        })
+
+  -- a call that is not refused reads with the own buffer
+  module _ (e : ltb (length (lentFrom (c .lent) a)) mostGathered ≡ false) (f : ltb (length (c .output)) leastOutput ≡ false) where
+    outcome : Outcome
+    outcome = run (held (t .reader) (t .assembly)) (c .input)
+
+    is-own : c .lent ≡ own
+    is-own = lent-own (c .lent) a e
+
+    room : mostGathered ≤ length a
+    room = ltb-false _ _ (rw is-own at e)
+
+    answers : gives t c ≡ answered (t .device) outcome (c .output)
+    unfolding gives receive outcome
+    answers = rw (keeps, size, e, f) (ap (λ l. answered (t .device) (run (held (t .reader) (lentFrom l (t .assembly))) (c .input)) (c .output)) is-own)
+
+    behind : After p (held (t .reader) (t .assembly))
+    behind = s .holds room
+
+    is-closed : outcome ≡ closed (call p (c .input)) (behind .under)
+    unfolding outcome
+    is-closed = ap (λ h. run h (c .input)) (behind .state) ∙ call-closed (c .input) p (behind .under) (behind .room)
+
+    found : checkedOf (toldOf (outcome .fate) (outcome .state .assembly)) ≡ checkedIn p (callReads p (c .input))
+    unfolding outcome checkedIn
+    found =
+        ap (λ h. checkedOf (toldOf (run h (c .input) .fate) (run h (c .input) .state .assembly))) (behind .state)
+        ∙ ap checkedOf (call-tells p (behind .under) (c .input) (behind .room))
+
+    device-next : next t c .device ≡ deviceAfter (t .device) (checkedIn p (callReads p (c .input)))
+    unfolding next
+    device-next = ap (λ q. q .device) answers ∙ answered-device (t .device) outcome (c .output) found
+
+    state-next : held (next t c .reader) (next t c .assembly) ≡ outcome .state
+    unfolding next
+    state-next =
+        ap (λ l. held (gives t c .reader) (leftIn l (t .assembly) (gives t c .assembly))) is-own
+        ∙ ap (λ q. held (q .reader) (q .assembly)) answers
+        ∙ answered-read (t .device) outcome (c .output) .2
+
+    stands-next : Stands a (unfinished p (callReads p (c .input))) (next t c)
+    unfolding outcome
+    stands-next =
+        let keeps = rules-told (t .reader) (s .reader) in
+        let wide : mostGathered ≤ length (t .assembly) = rw (s .size) room in
+        record {
+          device = rw device-next (bodies-keep (t .device) (checkedIn p (callReads p (c .input))) (s .device));
+          reader = ap (λ h. readerRules (h .reader)) state-next ∙ run-rules (t .reader) (t .assembly) (c .input) keeps wide;
+          size = ap (λ h. length (h .assembly)) state-next ∙ same-room (t .reader) (t .assembly) (c .input) keeps wide ∙ s .size;
+          holds = λ _. rw (state-next, behind .state) (after-call p (behind .under) (c .input) (behind .room));
+        }
+
+    read-step : Step a p (readBy a p c) t c
+    unfolding readBy isRefused callReads closed tells meant
+    read-step =
+        let q = answered-read (t .device) outcome (c .output) in
+        let count = ap (λ r. r .read) answers ∙ q .1 ∙ ap (λ o. o .read) is-closed in
+        let number = ap (λ r. numberOf (r .answer)) answers ∙ ap numberOf (q .0) ∙ ap (λ o. number (o .fate)) is-closed in
+        let octets = ap (λ r. take (r .written) (r .output)) answers ∙ answered-octets (t .device) outcome (c .output) found in
+        rw (e, f)
+        (record {
+          read = ap (λ n. take n (c .input)) count;
+          reply = ap replyIn answers ∙ answered-reply (t .device) outcome (c .output) found;
+          device = device-next;
+          stands = stands-next;
+          tells = rw (e, f) (λ i. record { number = number i; read = count i; octets = octets i });
+        })
+
+  pub step : Step a p (readBy a p c) t c
+  unfolding isRefused meant gives receive
+  step =
+      by-test (ltb (length (lentFrom (c .lent) a)) mostGathered)
+      (λ e. refused-step SmallAssembly refl (rw (keeps, size, e)) (rw e) (rw e))
+      (λ e.
+      by-test (ltb (length (c .output)) leastOutput) (λ f. refused-step SmallOutput refl (rw (keeps, size, e, f)) (rw (e, f)) (rw (e, f))) (read-step e))
+
+-- ---- all calls
+
+pub record Runs (a p : List ℕ) (t : State) (cs : List Call) : Type 0 where
+  pub read : readFrom t cs ≡ laidFrom a p cs
+  pub replies : repliesFrom t cs ≡ map frame (repliesTo (t .device) (checkedIn p (laidFrom a p cs)))
+  pub device : foldl next t cs .device ≡ deviceAfter (t .device) (checkedIn p (laidFrom a p cs))
+  pub stands : Stands a (unfinished p (laidFrom a p cs)) (foldl next t cs)
+
+pub runs : (a p : List ℕ) (t : State) (cs : List Call) → Stands a p t → Runs a p t cs
+unfolding readFrom laidFrom repliesFrom checkedIn checkedOf verdicts finished unfinished repliesTo deviceAfter
+runs a p t [] s = record { read = refl; replies = refl; device = refl; stands = s }
+runs a p t (c ∷ cs) s =
+    let w = readBy a p c in
+    let q = unfinished p w in
+    let xs = laidFrom a q cs in
+    let one = step a p t c s in
+    let rest = runs a q (next t c) cs (one .stands) in
+    let all = checked-append p w xs in
+    record {
+      read = ap₂ _++_ (one .read) (rest .read);
+      replies =
+          ap₂ _++_ (one .reply) (rest .replies ∙ ap (λ d. map frame (repliesTo d (checkedIn q xs))) (one .device))
+          ∙ sym (ap (λ bs. map frame (repliesTo (t .device) bs)) all ∙ frames-append (t .device) (checkedIn p w) (checkedIn q xs));
+      device =
+          rest .device ∙ ap (λ d. deviceAfter d (checkedIn q xs)) (one .device)
+          ∙ sym (ap (deviceAfter (t .device)) all ∙ device-append (t .device) (checkedIn p w) (checkedIn q xs));
+      stands = rw (unfinished-append p w xs) (rest .stands);
+    }

@@ -1,0 +1,64 @@
+-- Laws of one receiving call. Assumes nothing.
+use mathlib.Core.Path.{_≡_, refl, sym, _∙_}
+use mathlib.Core.Bool.{true, false, cond}
+use mathlib.Core.List.{List, [], _∷_, map, append-nil}
+use Prim.Native.Nat.{ℕ}
+use borrow.Author.Tests.{not-false}
+use lib.Dec.{eqb}
+use lib.ListN.{take}
+use lib.Seq.{take-append-seam}
+use Rattle.octets.specs.Runs.{each}
+use Rattle.octets.proofs.LawsTests.{by-test, both-told}
+use Rattle.hdlc.specs.declared.reader.Fate.{Fate}
+use Rattle.hdlc.specs.declared.reader.Fate.the-variants.{Unfinished, Checked, Short, WrongCheck, TooLong, CutEscape, BadHeader}
+use Rattle.hdlc.specs.declared.reader.Reader.{Reader}
+use Rattle.hdlc.specs.Frame.{frame, writing}
+use Rattle.hdlc.specs.Reading.{number, held, Outcome}
+use Rattle.hdlc.specs.Rules.{rules as readerRules}
+use Rattle.hdlc.specs.Wire.{bodyIn, told}
+use Rattle.device.specs.declared.state.Device.{Device}
+use Rattle.device.specs.Rules.{rules}
+use Rattle.engine.specs.Engine.{engine}
+use Rattle.engine.specs.Merged.{deviceAfter, repliesTo}
+use Rattle.serial.specs.declared.call.Answer.the-variants.{Read}
+use Rattle.serial.specs.Receiving.{breaksRules, answered}
+use Rattle.serial.specs.Histories.{checkedOf, replyIn}
+
+pub rules-kept : (d : Device) (r : Reader) → breaksRules d r ≡ false → (rules d ≡ true) × (readerRules r ≡ true)
+unfolding breaksRules
+rules-kept d r e = both-told (not-false _ e)
+
+-- ---- a call that was not refused, by the bodies that it checked
+
+checked-told : (f : Fate) (xs : List ℕ) → checkedOf (told f xs) ≡ cond (eqb (number f) 1) (bodyIn f xs ∷ []) []
+unfolding checkedOf told
+checked-told Unfinished xs = refl
+checked-told (Checked n) xs = refl
+checked-told Short xs = refl
+checked-told WrongCheck xs = refl
+checked-told TooLong xs = refl
+checked-told CutEscape xs = refl
+checked-told BadHeader xs = refl
+
+module _ (d : Device) (o : Outcome) (out : List ℕ) {bs : List (List ℕ)} (e : checkedOf (told (o .fate) (o .state .assembly)) ≡ bs) where
+  found : bs ≡ cond (eqb (number (o .fate)) 1) (bodyIn (o .fate) (o .state .assembly) ∷ []) []
+  found = sym e ∙ checked-told (o .fate) (o .state .assembly)
+
+  pub answered-device : answered d o out .device ≡ deviceAfter d bs
+  unfolding answered deviceAfter
+  answered-device = rw found (by-test (eqb (number (o .fate)) 1) (λ t. rw t) (λ t. rw t))
+
+  pub answered-reply : replyIn (answered d o out) ≡ map frame (repliesTo d bs)
+  unfolding answered replyIn repliesTo writing
+  answered-reply = rw found (by-test (eqb (number (o .fate)) 1) (λ t. simp (t, take-append-seam)) (λ t. simp t))
+
+  pub answered-octets : take (answered d o out .written) (answered d o out .output) ≡ each frame (repliesTo d bs)
+  unfolding answered repliesTo writing
+  answered-octets = rw found (by-test (eqb (number (o .fate)) 1) (λ t. simp (t, take-append-seam, append-nil)) (λ t. simp t))
+
+-- the rest is what the reader gave
+pub answered-read : (d : Device) (o : Outcome) (out : List ℕ)
+    → (answered d o out .answer ≡ Read (o .fate)) × (answered d o out .read ≡ o .read)
+    × (held (answered d o out .reader) (answered d o out .assembly) ≡ o .state)
+unfolding answered
+answered-read d o out = by-test (eqb (number (o .fate)) 1) (λ t. rw t (refl, refl, refl)) (λ t. rw t (refl, refl, refl))

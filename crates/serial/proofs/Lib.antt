@@ -1,0 +1,6 @@
+pub mod LawsReceiving
+pub mod LawsHistories
+pub mod Faithful
+pub mod Separate
+pub mod Resynchronization
+pub mod WorkedPair

@@ -1,0 +1,84 @@
+-- PROMISE: the premise of `separate` can be met. Two histories of link 1: one with noise, cuts in a frame and in an escape, both refusals,
+-- joined frames and settings of link 0, the other clean. Their octets and bodies differ, and link 1's merged sequence is the same, by
+-- computation. Assumes nothing.
+use mathlib.Core.Path.{_≡_, refl}
+use mathlib.Core.List.{List, [], _∷_}
+use Prim.Native.Nat.{ℕ}
+use native.Mathlib.Omega.{arith}
+use lib.ListN.{length, replicate}
+use Rattle.octets.specs.Finding.{before}
+use Rattle.octets.specs.LittleEndian.{le, leAt}
+use Rattle.octets.specs.Padding.{pad}
+use Rattle.hdlc.specs.Kinds.{isFlag, isEscape, isSkipped}
+use Rattle.hdlc.specs.Fcs.{fcsBit, fcsBits, fcsOctet, fcsFrom, fcs}
+use Rattle.hdlc.specs.Reading.{bodyOf, checkOf, headed, judged}
+use Rattle.hdlc.specs.Wire.{kept, meant, pends, gathered, cutEscape, verdict, ended, grown, finished, unfinished, told, verdicts, verdictAt, call, callReads}
+use Rattle.device.specs.State.{goodText, isText, fresh}
+use Rattle.device.specs.Setup.{isSetup, setupFor}
+use Rattle.engine.specs.Engine.{linkOf, isSetUp}
+use Rattle.engine.specs.Merged.{isReset, isPower, effectOf, effectItem, itemOf, merged}
+use Rattle.serial.specs.Histories.{Setup, Lent, own, short, Call, History, isRefused, readBy, laidFrom, laid, checkedOf, checkedIn, bodies}
+use Rattle.serial.specs.Links.{mergedIn}
+use Rattle.serial.proofs.Separate.{Alike, separate}
+
+-- a box of two links
+abbrev pub two-links : Setup
+two-links = record { links = 2; vendor = 0; text = []; address = replicate 8 0 }
+
+-- a call with the own buffer and room for a reply
+abbrev reads : List ℕ → Call
+reads xs = record { lent = own; input = xs; output = replicate 128 0 }
+
+abbrev pub noisy : History
+noisy =
+    record {
+      assembly = replicate 1302 7;
+      calls =
+          reads (0x01 ∷ 0x02 ∷ 0x03 ∷ 0x7e ∷ []) ∷  -- noise
+          reads (0x7d ∷ 0x7e ∷ []) ∷  -- a cut escape
+          reads (0x7e ∷ 0x83 ∷ 0x03 ∷ 0x21 ∷ []) ∷  -- the channel of link 0, cut
+          record { lent = own; input = 0x1a ∷ 0x29 ∷ 0x9e ∷ 0x7e ∷ []; output = [] } ∷  -- refused with 13
+          record { lent = short (replicate 7 0) (omega arith); input = 0x1a ∷ 0x29 ∷ []; output = replicate 128 0 } ∷  -- refused with 12
+          reads (0x1a ∷ 0x29 ∷ 0x9e ∷ 0x7e ∷ []) ∷
+          reads (0x81 ∷ 0x01 ∷ 0xda ∷ 0x8b ∷ 0x7e ∷ []) ∷  -- a reset by link 0
+          reads (0x93 ∷ 0x03 ∷ 0x21 ∷ 0x0c ∷ 0x3f ∷ 0x28 ∷ []) ∷  -- the channel of link 1, its flag in the next call
+          reads (0x7e ∷ []) ∷
+          reads (0x83 ∷ 0x03 ∷ 0x07 ∷ 0x02 ∷ 0x03 ∷ 0x75 ∷ 0x7e ∷ []) ∷  -- the power state, set by link 0
+          reads (0x92 ∷ 0x02 ∷ 0x21 ∷ 0x36 ∷ 0xf9 ∷ 0x92 ∷ 0x02 ∷ 0x07 ∷ 0x02 ∷ 0xbd ∷ 0x7e ∷ []) ∷  -- two frames joined
+          reads (0x92 ∷ 0x02 ∷ 0x07 ∷ 0x02 ∷ 0xbd ∷ 0x7e ∷ []) ∷  -- GET of the power state on link 1
+          reads (0x93 ∷ 0x03 ∷ 0x21 ∷ 0xff ∷ 0x2b ∷ 0xed ∷ 0x7e ∷ []) ∷  -- a channel out of range
+          reads (0x9d ∷ 0x04 ∷ 0x5c ∷ 0x7d ∷ []) ∷  -- a port inserted, cut in an escape
+          reads (0x33 ∷ 0x00 ∷ 0x43 ∷ 0x66 ∷ 0x7e ∷ []) ∷
+          [];
+    }
+
+abbrev pub clean : History
+clean =
+    record {
+      assembly = replicate 1400 0;
+      calls =
+          reads (0x7e ∷ 0x84 ∷ 0x01 ∷ 0x62 ∷ 0xf5 ∷ 0x7e ∷ []) ∷  -- a reset by link 0, under another transaction id
+          reads (0x7e ∷ 0x93 ∷ 0x03 ∷ 0x21 ∷ 0x0c ∷ 0x3f ∷ 0x28 ∷ 0x7e ∷ []) ∷
+          reads (0x7e ∷ 0x89 ∷ 0x03 ∷ 0x07 ∷ 0x02 ∷ 0xad ∷ 0xa9 ∷ 0x7e ∷ []) ∷
+          reads (0x7e ∷ 0x92 ∷ 0x02 ∷ 0x07 ∷ 0x02 ∷ 0xbd ∷ 0x7e ∷ []) ∷
+          reads (0x7e ∷ 0x93 ∷ 0x03 ∷ 0x21 ∷ 0xff ∷ 0x2b ∷ 0xed ∷ 0x7e ∷ []) ∷
+          reads (0x7e ∷ 0x9d ∷ 0x04 ∷ 0x5c ∷ 0x7d ∷ 0x33 ∷ 0x00 ∷ 0x43 ∷ 0x66 ∷ 0x7e ∷ []) ∷
+          [];
+    }
+
+pub same-merged : mergedIn two-links 1 noisy ≡ mergedIn two-links 1 clean
+unfolding before le leAt pad isFlag isEscape isSkipped fcsBit fcsBits fcsOctet fcsFrom fcs bodyOf checkOf headed judged
+    kept meant pends gathered cutEscape verdict ended grown finished unfinished told verdicts verdictAt call callReads
+    goodText isText fresh isSetup setupFor linkOf isSetUp isReset isPower effectOf effectItem itemOf merged
+    isRefused readBy laidFrom laid checkedOf checkedIn bodies mergedIn
+same-merged = refl
+
+-- seven checked bodies and six
+pub other-bodies : (length (bodies noisy) ≡ 7) × (length (bodies clean) ≡ 6)
+unfolding le leAt isFlag isEscape isSkipped fcsBit fcsBits fcsOctet fcsFrom fcs bodyOf checkOf headed judged
+    kept meant pends gathered cutEscape verdict ended grown finished unfinished told verdicts verdictAt call callReads
+    isRefused readBy laidFrom laid checkedOf checkedIn bodies
+other-bodies = (refl, refl)
+
+pub alike : Alike two-links 1 noisy clean
+alike = separate two-links 1 (omega arith) noisy clean same-merged

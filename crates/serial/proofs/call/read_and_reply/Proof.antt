@@ -1,0 +1,89 @@
+-- A checked body meets what the engine asks, and a fate without a body is no fate 1. Assumes nothing.
+use types.Run.{OneOf, miss}
+use denote.Enum.Declared.{tagOf}
+use mathlib.Core.Bool.{false}
+use mathlib.Core.Path.{_≡_, refl, sym, ap, _∙_}
+use mathlib.Core.List.{List, [], _∷_}
+use Prim.Native.Nat.{ℕ, _/_, _≤_}
+use native.Mathlib.Omega.{arith}
+use borrow.Author.Needs.{needs}
+use lib.Dec.{eqb}
+use lib.ListN.{length, take, getD}
+use lib.Seq.{length-take-le, getD-take}
+use Rattle.hdlc.specs.declared.reader.Fate.{Fate}
+use Rattle.hdlc.specs.declared.reader.Fate.the-variants.{Unfinished, Checked, Short, WrongCheck, TooLong, CutEscape, BadHeader}
+use Rattle.hdlc.specs.Reading.{number, held, outcome, run}
+use Rattle.hdlc.proofs.reader.Fate.{the-type as fate-type}
+use Rattle.hdlc.proofs.ReaderRules.{rules-told}
+use Rattle.hdlc.proofs.CheckedBodies.{checked-body}
+use Rattle.device.specs.declared.state.Device.{Device}
+use Rattle.serial.specs.declared.call.Answer.the-variants.{Read}
+use Rattle.serial.specs.Receiving.{unanswered, answered}
+use Rattle.serial.proofs.call.read_and_reply.Statement.{statement}
+use Rattle.serial.proofs.call.read_and_reply.Tie as tie
+
+module _ (c : tie.After-known-told) where
+  count : ℕ
+  count = c .before .fate .given .0 .0
+
+  assembly : List ℕ
+  assembly = c .before .before .before .before .before .before .read-frame .last .1 .1 .0
+
+  -- what was read, with the fate that the pattern found
+  reads : let s = c .before .before .before .before .before .before .before .before .before .before .before in
+      let r = c .before .before .before .before .before .before .read-frame in
+      outcome (Checked count) (r .result .read) (r .result .reader) assembly ≡ run (held (s .args .reader) (s .args .assembly .now)) (s .args .input .now)
+  unfolding count assembly
+  reads =
+      let r = c .before .before .before .before .before .before .read-frame in
+      ap (λ f. outcome f (r .result .read) (r .result .reader) (r .last .1 .1 .0)) (sym (c .before .fate .given .1)) ∙ r .ensures
+
+  fits : (2 ≤ count) × (count ≤ 1300) × (getD assembly 0 0 / 64 ≡ 2)
+  fits =
+      let s = c .before .before .before .before .before .before .before .before .before .before .before in
+      let t = checked-body _ (s .args .assembly .now) (s .args .input .now) count (rules-told _ (s .pre .0 .1)) (s .pre .1 .0) (ap (λ o. o .fate) (sym reads)) in
+      (t .0, t .1, ap (λ o. getD (o .state .assembly) 0 0 / 64) reads ∙ t .2)
+
+  room : count ≤ length assembly
+  unfolding assembly
+  room =
+      let f = fits in
+      omega (arith, c .before .before .before .before .before .before .read-frame .kept, c .before .before .before .before .before .before .before .before .before .before .before .pre .1)
+
+-- a fate without a body is not 1
+other : (f : Fate) → OneOf (0 ∷ 2 ∷ 3 ∷ 4 ∷ 5 ∷ 6 ∷ []) (tagOf fate-type f) → eqb (number f) 1 ≡ false
+other Unfinished o = refl
+other (Checked n) o = absurd (miss (0 ∷ 2 ∷ 3 ∷ 4 ∷ 5 ∷ 6 ∷ []) 1 tt o)
+other Short o = refl
+other WrongCheck o = refl
+other TooLong o = refl
+other CutEscape o = refl
+other BadHeader o = refl
+
+pub read-and-reply-spec : {M : Type 1} → statement M
+unfolding count assembly answered
+read-and-reply-spec =
+    tie.close
+    (tie.spec
+    (λ c κs. search needs)
+    (λ c. search needs)
+    (λ c. room c)
+    (λ c. sym (length-take-le _ _ (room (c .before))))
+    (λ c κs. let k = c .before .before in let f = fits k in let size = length-take-le (count k) (assembly k) (room k) in
+    (search needs, ((omega (arith, f .0, size), omega (arith, f .1, size), ap (λ b. b / 64) (getD-take (count k) (assembly k) 0 0 (omega arith)) ∙ f .2), search needs)))
+    (λ c. search needs)
+    (λ c. search needs)
+    (λ c. let k = c .before .before .before .before .before .before in let w = c .before .before .before .reply in
+    rw (← reads k)
+    (λ i. record {
+      answer = Read (Checked (count k));
+      read = k .before .before .before .before .before .before .read-frame .result .read;
+      written = w .ensures .1 i .count;
+      device = w .ensures .0 i;
+      reader = k .before .before .before .before .before .before .read-frame .result .reader;
+      assembly = assembly k;
+      output = w .ensures .1 i .output;
+    }))
+    (λ c κs. search needs)
+    (λ c. search needs)
+    (λ c. rw (c .unanswered .ensures, ← c .before .before .before .before .before .read-frame .ensures, other _ (c .before .match .keys2))))

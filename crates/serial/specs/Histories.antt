@@ -1,0 +1,158 @@
+-- Whole histories of receiving calls, and what they are by the octets alone (01, Whole histories).
+use mathlib.Core.Bool.{Bool, cond, _||_}
+use mathlib.Core.List.{List, [], _∷_, foldl}
+use Prim.Native.Nat.{ℕ, _<_}
+use lib.Dec.{eqb, ltb}
+use lib.ListN.{length, take}
+use Rattle.octets.specs.Runs.{each, emitted}
+use Rattle.hdlc.specs.declared.reader.Reader.{Reader}
+use Rattle.hdlc.specs.Frame.{frame}
+use Rattle.hdlc.specs.Reading.{number, mostGathered, fresh}
+use Rattle.hdlc.specs.Wire.{Verdict, verdicts, finished, unfinished, call, callReads}
+use Rattle.device.specs.declared.state.Device.{Device}
+use Rattle.device.specs.Setup.{setupFor}
+use Rattle.engine.specs.Merged.{deviceAfter, repliesTo}
+use Rattle.serial.specs.Receiving.{numberOf, leastOutput, Result, receive}
+
+-- ---- histories
+
+-- what setup is given, good or bad
+pub record Setup : Type 0 where
+  pub links : ℕ
+  pub vendor : ℕ
+  pub text : List ℕ
+  pub address : List ℕ
+
+-- "what setup returns for the same settings, 14 included"
+abbrev pub deviceFrom : Setup → Device
+deviceFrom s = setupFor (s .links) (s .vendor) (s .text) (s .address) .device
+
+-- the assembly buffer that a call is lent: the history's own, or "instead .. one under 1,302"
+pub data Lent : Type 0 where
+  own : Lent
+  short : (b : List ℕ) → length b < mostGathered → Lent
+
+-- "Inputs and output spaces are any"
+pub record Call : Type 0 where
+  pub lent : Lent
+  pub input : List ℕ
+  pub output : List ℕ
+
+-- "Each history has its own assembly buffer, of any length and contents"
+pub record History : Type 0 where
+  pub assembly : List ℕ
+  pub calls : List Call
+
+-- ---- its calls, one after the other
+
+-- what stands between two calls; the assembly buffer is the history's own
+pub record State : Type 0 where
+  pub device : Device
+  pub reader : Reader
+  pub assembly : List ℕ
+
+abbrev pub lentFrom : Lent → List ℕ → List ℕ
+lentFrom own a = a
+lentFrom (short b h) a = b
+
+-- the own buffer after a call that left the lent one as b
+abbrev pub leftIn : Lent → List ℕ → List ℕ → List ℕ
+leftIn own a b = b
+leftIn (short _ h) a b = a
+
+unfoldable pub gives : State → Call → Result
+gives t c = receive (t .device) (t .reader) (c .input) (lentFrom (c .lent) (t .assembly)) (c .output)
+
+-- "Each call gets the box and the reader that the last one returned", and the own buffer "as the last call left it"
+unfoldable pub next : State → Call → State
+next t c =
+    record {
+      device = gives t c .device;
+      reader = gives t c .reader;
+      assembly = leftIn (c .lent) (t .assembly) (gives t c .assembly);
+    }
+
+-- "Both start from a fresh reader and what setup returns"
+abbrev pub start : Setup → List ℕ → State
+start s a = record { device = deviceFrom s; reader = fresh; assembly = a }
+
+unfoldable pub endOf : Setup → History → State
+endOf s h = foldl next (start s (h .assembly)) (h .calls)
+
+-- ---- what its calls returned
+
+-- the octets of a call's reply, where a frame was answered
+unfoldable pub replyIn : Result → List (List ℕ)
+replyIn r = cond (eqb (numberOf (r .answer)) 1) (take (r .written) (r .output) ∷ []) []
+
+-- "octets written", a list for each reply
+unfoldable pub repliesFrom : State → List Call → List (List ℕ)
+repliesFrom t cs = emitted (λ u c. replyIn (gives u c)) next t cs
+
+unfoldable pub repliesIn : Setup → History → List (List ℕ)
+repliesIn s h = repliesFrom (start s (h .assembly)) (h .calls)
+
+-- the octets that the calls read, by the counts that they returned
+unfoldable pub readFrom : State → List Call → List ℕ
+readFrom t cs = emitted (λ u c. take (gives u c .read) (c .input)) next t cs
+
+unfoldable pub readIn : Setup → History → List ℕ
+readIn s h = readFrom (start s (h .assembly)) (h .calls)
+
+-- ---- the same by the octets
+
+-- a call is refused for its buffers alone; `a` is the history's own, whose length no call changes
+unfoldable pub isRefused : List ℕ → Call → Bool
+isRefused a c = ltb (length (lentFrom (c .lent) a)) mostGathered || ltb (length (c .output)) leastOutput
+
+-- behind an open piece p a call reads nothing if it is refused, else "its input to the first flag with a fate, that flag included, else all"
+unfoldable pub readBy : List ℕ → List ℕ → Call → List ℕ
+readBy a p c = cond (isRefused a c) [] (callReads p (c .input))
+
+-- "Lay end to end what the unrefused calls read"; each goes on with the piece that the last one left
+unfoldable pub laidFrom : List ℕ → List ℕ → List Call → List ℕ
+laidFrom a p cs = emitted (readBy a) (λ q c. unfinished q (readBy a q c)) p cs
+
+unfoldable pub laid : History → List ℕ
+laid h = laidFrom (h .assembly) [] (h .calls)
+
+-- "A checked frame is one with fate 1"; the bodies of those among verdicts
+unfoldable pub checkedOf : List Verdict → List (List ℕ)
+checkedOf vs = each (λ v. cond (eqb (v .number) 1) (v .body ∷ []) []) vs
+
+-- the checked bodies that octets finish behind an open piece p: "Cut this at the flags"
+unfoldable pub checkedIn : List ℕ → List ℕ → List (List ℕ)
+checkedIn p xs = checkedOf (verdicts (finished p xs))
+
+-- the checked bodies of a history, in order
+unfoldable pub bodies : History → List (List ℕ)
+bodies h = checkedIn [] (laid h)
+
+-- ---- one call by the octets
+
+-- what a call tells its caller: 01's number, how many octets it read, and the octets that it wrote
+pub record Told : Type 0 where
+  pub number : ℕ
+  pub read : ℕ
+  pub octets : List ℕ
+
+abbrev pub told : ℕ → ℕ → List ℕ → Told
+told n k xs = record { number = n; read = k; octets = xs }
+
+unfoldable pub tells : Result → Told
+tells r = told (numberOf (r .answer)) (r .read) (take (r .written) (r .output))
+
+-- behind an open piece p, with the device d, and `a` for the own buffer: refusals, else the fate of the piece that ends, and the frames
+-- of the replies to what was checked
+unfoldable pub meant : List ℕ → List ℕ → Device → Call → Told
+meant a p d c =
+    cond (ltb (length (lentFrom (c .lent) a)) mostGathered) (told 12 0 [])
+    (cond (ltb (length (c .output)) leastOutput) (told 13 0 [])
+    (told (number (call p (c .input) .fate)) (call p (c .input) .read) (each frame (repliesTo d (checkedIn p (callReads p (c .input)))))))
+
+-- the piece that is open after a history, and the device
+unfoldable pub openAfter : History → List ℕ
+openAfter h = unfinished [] (laid h)
+
+unfoldable pub deviceIn : Setup → History → Device
+deviceIn s h = deviceAfter (deviceFrom s) (bodies h)
