@@ -7,7 +7,7 @@ use mathlib.Core.Path.{_≡_, refl, sym, ap, _∙_}
 use mathlib.Core.List.{List, [], map}
 use Prim.Native.Nat.{ℕ, _≤_}
 use native.Mathlib.Omega.{arith}
-use lib.Dec.{ltb}
+use lib.Dec.{eqb, ltb}
 use lib.ListN.{length, length-map}
 use Rattle.octets.proofs.LawsTests.{chosen}
 use Rattle.hdlc.specs.declared.reader.Fate.{Fate}
@@ -22,8 +22,8 @@ use Rattle.device.specs.declared.state.Device.{Device}
 use Rattle.device.proofs.SetupKeepsRules.{setup-keeps}
 use Rattle.engine.specs.Merged.{repliesTo}
 use Rattle.engine.proofs.LawsRepliesInOrder.{one-each}
-use Rattle.serial.specs.Receiving.{numberOf, leastOutput}
-use Rattle.serial.specs.Histories.{Setup, deviceFrom, Call, lentFrom, History, start, endOf, gives, repliesIn, readIn, laid, bodies, Told, tells, meant, openAfter, deviceIn}
+use Rattle.serial.specs.Receiving.{numberOf, leastOutput, Result}
+use Rattle.serial.specs.Histories.{Setup, deviceFrom, Call, lentFrom, History, start, endOf, gives, replyIn, repliesIn, readIn, readBy, laid, checkedIn, bodies, Told, tells, meant, openAfter, deviceIn}
 use Rattle.serial.proofs.LawsHistories.{Stands, Step, step, Runs, runs}
 
 pub record Faithful (s : Setup) (h : History) : Type 0 where
@@ -32,6 +32,7 @@ pub record Faithful (s : Setup) (h : History) : Type 0 where
   pub read : readIn s h ≡ laid h
   pub device : endOf s h .device ≡ deviceIn s h
   pub more : (c : Call) → tells (gives (endOf s h) c) ≡ meant (h .assembly) (openAfter h) (deviceIn s h) c
+  pub at-most-one : (c : Call) → length (checkedIn (openAfter h) (readBy (h .assembly) (openAfter h) c)) ≤ 1
   pub never-11 : (c : Call) → numberOf (gives (endOf s h) c .answer) ≢ 11
 
 -- ---- the start
@@ -45,6 +46,12 @@ starts s a =
       size = refl;
       holds = λ room. record { under = a; room = room; state = open-holds fresh a fresh-rules room };
     }
+
+-- ---- a call answers one frame or none
+
+few-replies : (r : Result) → length (replyIn r) ≤ 1
+unfolding replyIn
+few-replies r = chosen (λ (l : List (List ℕ)). length l ≤ 1) (eqb (numberOf (r .answer)) 1) (λ _. omega arith) (λ _. omega arith)
 
 -- ---- no call of a history is refused with 11
 
@@ -64,17 +71,35 @@ never a p d c =
     (λ _. chosen (λ (m : Told). m .number ≢ 11) (ltb (length (c .output)) leastOutput) (λ _ e. omega arith)
     (λ _ e. omega (arith, few (call p (c .input) .fate))))
 
-pub faithful : (s : Setup) (h : History) → Faithful s h
-unfolding repliesIn readIn endOf laid bodies openAfter deviceIn tells
-faithful s h =
-    let r = runs (h .assembly) [] (start s (h .assembly)) (h .calls) (starts s (h .assembly)) in
-    let more : (c : Call) → tells (gives (endOf s h) c) ≡ meant (h .assembly) (openAfter h) (deviceIn s h) c =
-    λ c. step (h .assembly) (openAfter h) (endOf s h) c (r .stands) .tells ∙ ap (λ d. meant (h .assembly) (openAfter h) d c) (r .device) in
-    record {
-      replies = r .replies;
-      one-each = ap length (r .replies) ∙ length-map (repliesTo (deviceFrom s) (bodies h)) frame ∙ one-each (deviceFrom s) (bodies h);
-      read = r .read;
-      device = r .device;
-      more = more;
-      never-11 = λ c e. never (h .assembly) (openAfter h) (deviceIn s h) c (sym (ap (λ m. m .number) (more c)) ∙ e);
-    }
+module _ (s : Setup) (h : History) where
+  all : Runs (h .assembly) [] (start s (h .assembly)) (h .calls)
+  all = runs (h .assembly) [] (start s (h .assembly)) (h .calls) (starts s (h .assembly))
+
+  -- one call more
+  after : (c : Call) → Step (h .assembly) (openAfter h) (readBy (h .assembly) (openAfter h) c) (endOf s h) c
+  unfolding endOf openAfter laid
+  after c = step (h .assembly) (openAfter h) (endOf s h) c (all .stands)
+
+  meant-more : (c : Call) → tells (gives (endOf s h) c) ≡ meant (h .assembly) (openAfter h) (deviceIn s h) c
+  unfolding endOf deviceIn bodies laid
+  meant-more c = after c .tells ∙ ap (λ d. meant (h .assembly) (openAfter h) d c) (all .device)
+
+  few-more : (c : Call) → length (checkedIn (openAfter h) (readBy (h .assembly) (openAfter h) c)) ≤ 1
+  few-more c =
+      let bs = checkedIn (openAfter h) (readBy (h .assembly) (openAfter h) c) in
+      let d = endOf s h .device in
+      let size : length (replyIn (gives (endOf s h) c)) ≡ length bs = ap length (after c .reply) ∙ length-map (repliesTo d bs) frame ∙ one-each d bs in
+      rw (← size) (few-replies (gives (endOf s h) c))
+
+  pub faithful : Faithful s h
+  unfolding repliesIn readIn endOf laid bodies deviceIn tells
+  faithful =
+      record {
+        replies = all .replies;
+        one-each = ap length (all .replies) ∙ length-map (repliesTo (deviceFrom s) (bodies h)) frame ∙ one-each (deviceFrom s) (bodies h);
+        read = all .read;
+        device = all .device;
+        more = meant-more;
+        at-most-one = few-more;
+        never-11 = λ c e. never (h .assembly) (openAfter h) (deviceIn s h) c (sym (ap (λ m. m .number) (meant-more c)) ∙ e);
+      }

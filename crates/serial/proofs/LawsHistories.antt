@@ -7,6 +7,7 @@ use native.Mathlib.Omega.{arith}
 use borrow.Author.Tests.{ltb-false, lt-ltb}
 use lib.Dec.{eqb, ltb}
 use lib.ListN.{length, take}
+use Rattle.octets.specs.Runs.{each}
 use Rattle.octets.proofs.LawsRuns.{each-append, emitted-append}
 use Rattle.octets.proofs.LawsTests.{by-test}
 use Rattle.hdlc.specs.Frame.{frame}
@@ -159,20 +160,30 @@ module _ (a p : List ℕ) (t : State) (c : Call) (s : Stands a p t) where
           holds = λ _. rw (state-next, behind .state) (after-call p (behind .under) (c .input) (behind .room));
         }
 
+    fate-read : numberOf (gives t c .answer) ≡ number (call p (c .input) .fate)
+    unfolding closed
+    fate-read =
+        ap (λ r. numberOf (r .answer)) answers
+        ∙ ap numberOf (answered-read (t .device) outcome (c .output) .0)
+        ∙ ap (λ o. number (o .fate)) is-closed
+
+    count-read : gives t c .read ≡ call p (c .input) .read
+    unfolding closed
+    count-read = ap (λ r. r .read) answers ∙ answered-read (t .device) outcome (c .output) .1 ∙ ap (λ o. o .read) is-closed
+
+    octets-written : take (gives t c .written) (gives t c .output) ≡ each frame (repliesTo (t .device) (checkedIn p (callReads p (c .input))))
+    octets-written = ap (λ r. take (r .written) (r .output)) answers ∙ answered-octets (t .device) outcome (c .output) found
+
     read-step : Step a p (readBy a p c) t c
-    unfolding readBy isRefused callReads closed tells meant
+    unfolding readBy isRefused callReads tells meant
     read-step =
-        let q = answered-read (t .device) outcome (c .output) in
-        let count = ap (λ r. r .read) answers ∙ q .1 ∙ ap (λ o. o .read) is-closed in
-        let number = ap (λ r. numberOf (r .answer)) answers ∙ ap numberOf (q .0) ∙ ap (λ o. number (o .fate)) is-closed in
-        let octets = ap (λ r. take (r .written) (r .output)) answers ∙ answered-octets (t .device) outcome (c .output) found in
         rw (e, f)
         (record {
-          read = ap (λ n. take n (c .input)) count;
+          read = ap (λ n. take n (c .input)) count-read;
           reply = ap replyIn answers ∙ answered-reply (t .device) outcome (c .output) found;
           device = device-next;
           stands = stands-next;
-          tells = rw (e, f) (λ i. record { number = number i; read = count i; octets = octets i });
+          tells = rw (e, f) (λ i. record { number = fate-read i; read = count-read i; octets = octets-written i });
         })
 
   pub step : Step a p (readBy a p c) t c
