@@ -1,18 +1,21 @@
 -- PROMISE: a checked body has 2 to 1,300 octets and the top two header bits 10. Assumes nothing.
 use mathlib.Core.Logic.{⊎-elim}
-use mathlib.Core.Path.{_≡_}
+use mathlib.Core.Bool.{true}
+use mathlib.Core.Path.{_≡_, refl, ap, _∙_}
 use mathlib.Core.List.{List}
 use Prim.Native.Nat.{ℕ, _/_, _≤_}
 use native.Mathlib.Omega.{arith}
 use borrow.Author.Tests.{ltb-false}
 use lib.Dec.{ltb, eqb}
 use lib.ListN.{length, getD, List·getD-append}
+use lib.Seq.{getD-take}
 use Rattle.octets.proofs.LawsTests.{by-test, impossible}
-use Rattle.hdlc.specs.declared.reader.Fate.the-variants.{Checked}
+use Rattle.hdlc.specs.declared.reader.Fate.{Fate}
+use Rattle.hdlc.specs.declared.reader.Fate.the-variants.{Unfinished, Checked, Short, WrongCheck, TooLong, CutEscape, BadHeader}
 use Rattle.hdlc.specs.declared.reader.Reader.{Reader}
-use Rattle.hdlc.specs.Reading.{mostGathered, held, run}
+use Rattle.hdlc.specs.Reading.{number, mostGathered, held, run}
 use Rattle.hdlc.specs.Rules.{Rules}
-use Rattle.hdlc.specs.Wire.{gathered, cutEscape, verdict, call}
+use Rattle.hdlc.specs.Wire.{gathered, cutEscape, verdict, bodyIn, call}
 use Rattle.hdlc.specs.States.{over, openPiece, closed}
 use Rattle.hdlc.proofs.LawsFates.{judged-checked}
 use Rattle.hdlc.proofs.LawsStates.{over-few}
@@ -41,3 +44,20 @@ checked-body r a xs n keeps room =
     let p = openPiece r a in
     rw (closed-form r a xs keeps room)
     (λ e. piece-checked (call p xs .state) a n (⊎-elim (λ u. impossible cc) (λ u. cc) (call-verdict xs p)))
+
+-- the same of the body that fate 1 is given for
+pub checked-top : (r : Reader) (a xs : List ℕ) → Rules r → mostGathered ≤ length a
+    → let o = run (held r a) xs in eqb (number (o .fate)) 1 ≡ true → getD (bodyIn (o .fate) (o .state .assembly)) 0 0 / 64 ≡ 2
+checked-top r a xs keeps room =
+    let o = run (held r a) xs in
+    by (o .fate) (o .state .assembly) (λ n. checked-body r a xs n keeps room)
+  where
+    by : (f : Fate) (g : List ℕ) → ((n : ℕ) → f ≡ Checked n → (2 ≤ n) × (n ≤ 1300) × (getD g 0 0 / 64 ≡ 2))
+        → eqb (number f) 1 ≡ true → getD (bodyIn f g) 0 0 / 64 ≡ 2
+    by Unfinished g t e = impossible cc
+    by (Checked n) g t e = let b = t n refl in ap (λ h. h / 64) (getD-take n g 0 0 (omega arith)) ∙ b .2
+    by Short g t e = impossible cc
+    by WrongCheck g t e = impossible cc
+    by TooLong g t e = impossible cc
+    by CutEscape g t e = impossible cc
+    by BadHeader g t e = impossible cc

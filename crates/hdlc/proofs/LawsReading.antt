@@ -6,14 +6,18 @@ use mathlib.Core.Path.{_≡_, refl, sym, ap, _∙_}
 use mathlib.Core.List.{List, [], _∷_}
 use Prim.Native.Nat.{ℕ, _+_, _<_, _≤_}
 use native.Mathlib.Nat.{zero-add, add-zero, add-assoc}
+use native.Mathlib.Omega.{arith}
+use lib.Dec.{eqb}
 use lib.ListN.{length, getD, drop, drop-of-length-le}
 use Rattle.octets.proofs.LawsLists.{drop-next}
+use Rattle.octets.proofs.LawsTests.{chosen}
 use Rattle.hdlc.specs.declared.reader.Fate.{Fate}
 use Rattle.hdlc.specs.declared.reader.Fate.the-variants.{Unfinished, Checked, Short, WrongCheck, TooLong, CutEscape, BadHeader}
-use Rattle.hdlc.specs.Reading.{Held, after, fateAt, decided, Read, later, run}
+use Rattle.hdlc.specs.Reading.{number, Held, after, fateAt, decided, Read, later, run}
+use Rattle.hdlc.specs.Wire.{bodyIn}
 use Rattle.hdlc.proofs.reader.Fate.{the-type as fate-type}
 
--- the `else` of an `if let` tells that the tag is one of the others
+-- the `else` of an `if let` tells that the tag is one of the others: a fate that is not 0 decides
 pub tag-decided : (f : Fate) → OneOf (1 ∷ 2 ∷ 3 ∷ 4 ∷ 5 ∷ 6 ∷ []) (tagOf fate-type f) → true ≡ decided f
 tag-decided Unfinished o = absurd (miss (1 ∷ 2 ∷ 3 ∷ 4 ∷ 5 ∷ 6 ∷ []) 0 tt o)
 tag-decided (Checked n) o = refl
@@ -23,11 +27,28 @@ tag-decided TooLong o = refl
 tag-decided CutEscape o = refl
 tag-decided BadHeader o = refl
 
+-- and so of a fate that is not 1: it has no body
+pub tag-unchecked : (f : Fate) (xs : List ℕ) → OneOf (0 ∷ 2 ∷ 3 ∷ 4 ∷ 5 ∷ 6 ∷ []) (tagOf fate-type f) → (eqb (number f) 1 ≡ false) × (bodyIn f xs ≡ [])
+tag-unchecked Unfinished xs o = (refl, refl)
+tag-unchecked (Checked n) xs o = absurd (miss (0 ∷ 2 ∷ 3 ∷ 4 ∷ 5 ∷ 6 ∷ []) 1 tt o)
+tag-unchecked Short xs o = (refl, refl)
+tag-unchecked WrongCheck xs o = (refl, refl)
+tag-unchecked TooLong xs o = (refl, refl)
+tag-unchecked CutEscape xs o = (refl, refl)
+tag-unchecked BadHeader xs o = (refl, refl)
+
 pub later-zero : {S : Type 0} (o : Read S) → later 0 o ≡ o
 later-zero o = λ i. record { fate = o .fate; read = zero-add (o .read) i; state = o .state }
 
 pub later-later : {S : Type 0} (m n : ℕ) (o : Read S) → later m (later n o) ≡ later (m + n) o
 later-later m n o = λ i. record { fate = o .fate; read = sym (add-assoc m n (o .read)) i; state = o .state }
+
+-- a call reads no more than its input
+pub run-reads : (xs : List ℕ) (h : Held) → run h xs .read ≤ length xs
+unfolding run
+run-reads [] h = omega arith
+run-reads (b ∷ bs) h =
+    chosen (λ (o : Read Held). o .read ≤ length (b ∷ bs)) (decided (fateAt h b)) (λ _. omega arith) (λ _. omega (arith, run-reads bs (after h b)))
 
 -- ---- the outcome of what is left from `at` on
 

@@ -1,24 +1,18 @@
--- A checked body meets what the engine asks, and a fate without a body is no fate 1. Assumes nothing.
-use types.Run.{OneOf, miss}
-use denote.Enum.Declared.{tagOf}
-use mathlib.Core.Bool.{false}
-use mathlib.Core.Path.{_≡_, refl, sym, ap, _∙_}
-use mathlib.Core.List.{List, [], _∷_}
+-- A checked body meets what the engine asks. Assumes nothing.
+use mathlib.Core.Path.{_≡_, sym, ap, _∙_}
+use mathlib.Core.List.{List, []}
 use Prim.Native.Nat.{ℕ, _/_, _≤_}
 use native.Mathlib.Omega.{arith}
 use borrow.Author.Needs.{needs}
-use lib.Dec.{eqb}
 use lib.ListN.{length, take, getD}
 use lib.Seq.{length-take-le, getD-take}
-use Rattle.hdlc.specs.declared.reader.Fate.{Fate}
-use Rattle.hdlc.specs.declared.reader.Fate.the-variants.{Unfinished, Checked, Short, WrongCheck, TooLong, CutEscape, BadHeader}
-use Rattle.hdlc.specs.Reading.{number, held, outcome, run}
-use Rattle.hdlc.proofs.reader.Fate.{the-type as fate-type}
+use Rattle.hdlc.specs.declared.reader.Fate.the-variants.{Checked}
+use Rattle.hdlc.specs.Reading.{held, outcome, run}
+use Rattle.hdlc.proofs.LawsReading.{tag-unchecked}
 use Rattle.hdlc.proofs.ReaderRules.{rules-told}
 use Rattle.hdlc.proofs.CheckedBodies.{checked-body}
-use Rattle.device.specs.declared.state.Device.{Device}
 use Rattle.serial.specs.declared.call.Answer.the-variants.{Read}
-use Rattle.serial.specs.Receiving.{unanswered, answered}
+use Rattle.serial.specs.Receiving.{answered}
 use Rattle.serial.proofs.call.read_and_reply.Statement.{statement}
 use Rattle.serial.proofs.call.read_and_reply.Tie as tie
 
@@ -50,16 +44,6 @@ module _ (c : tie.After-known-told) where
       let f = fits in
       omega (arith, c .before .before .before .before .before .before .read-frame .kept, c .before .before .before .before .before .before .before .before .before .before .before .pre .1)
 
--- a fate without a body is not 1
-other : (f : Fate) → OneOf (0 ∷ 2 ∷ 3 ∷ 4 ∷ 5 ∷ 6 ∷ []) (tagOf fate-type f) → eqb (number f) 1 ≡ false
-other Unfinished o = refl
-other (Checked n) o = absurd (miss (0 ∷ 2 ∷ 3 ∷ 4 ∷ 5 ∷ 6 ∷ []) 1 tt o)
-other Short o = refl
-other WrongCheck o = refl
-other TooLong o = refl
-other CutEscape o = refl
-other BadHeader o = refl
-
 pub read-and-reply-spec : {M : Type 1} → statement M
 unfolding count assembly answered
 read-and-reply-spec =
@@ -86,4 +70,4 @@ read-and-reply-spec =
     }))
     (λ c κs. search needs)
     (λ c. search needs)
-    (λ c. rw (c .unanswered .ensures, ← c .before .before .before .before .before .read-frame .ensures, other _ (c .before .match .keys2))))
+    (λ c. rw (c .unanswered .ensures, ← c .before .before .before .before .before .read-frame .ensures, tag-unchecked _ [] (c .before .match .keys2) .0)))

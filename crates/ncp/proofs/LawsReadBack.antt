@@ -1,0 +1,55 @@
+-- Laws of a frame that is read back. Assumes nothing.
+use types.Run.{OneOf}
+use denote.Enum.Declared.{tagOf}
+use mathlib.Core.Path.{_≡_, sym, ap, _∙_}
+use mathlib.Core.List.{List, [], _∷_, append-assoc}
+use Prim.Native.Nat.{ℕ, _/_, _≤_}
+use native.Mathlib.Omega.{arith}
+use borrow.Author.Tests.{eq-eqb}
+use lib.ListN.{length, take, replicate, length-replicate}
+use lib.Seq.{take-append-seam}
+use Rattle.octets.specs.Octets.{Octets}
+use Rattle.hdlc.specs.declared.reader.Fate.{Fate}
+use Rattle.hdlc.specs.declared.reader.Fate.the-variants.{Checked}
+use Rattle.hdlc.specs.declared.reader.Reader.{Reader}
+use Rattle.hdlc.specs.Frame.{checked, frame}
+use Rattle.hdlc.specs.Reading.{headed, mostGathered, outcome}
+use Rattle.hdlc.specs.Wire.{bodyIn}
+use Rattle.hdlc.proofs.reader.Fate.{the-type as fate-type}
+use Rattle.hdlc.proofs.LawsFrame.{unframed-octets}
+use Rattle.hdlc.proofs.LawsReading.{tag-unchecked}
+use Rattle.hdlc.proofs.ReaderRules.{fresh-rules}
+use Rattle.hdlc.proofs.CheckedBodies.{checked-body}
+use Rattle.hdlc.proofs.RoundTrip.{round-trip}
+use Rattle.command.specs.Reply.{headerOf}
+use Rattle.engine.proofs.ReplyBounds.{Bounded}
+use Rattle.ncp.specs.Turns.{readBack, bodyBack}
+
+cleared-room : mostGathered ≤ length {A = ℕ} (replicate mostGathered 0)
+cleared-room = omega (arith, length-replicate {A = ℕ} mostGathered 0)
+
+-- what the reader gave, by the cases that the code tells apart
+module _ (xs : List ℕ) {f : Fate} {read : ℕ} {r : Reader} {a : List ℕ} (is : outcome f read r a ≡ readBack xs) where
+  body : bodyIn f a ≡ bodyBack xs
+  unfolding bodyBack
+  body = ap (λ o. bodyIn (o .fate) (o .state .assembly)) is
+
+  pub back-checked : (n : ℕ) → f ≡ Checked n → (n ≤ 1300) × (take n a ≡ bodyBack xs)
+  back-checked n e =
+      let fits = checked-body _ _ xs n fresh-rules cleared-room (sym (ap (λ o. o .fate) is) ∙ e) in
+      (fits .1, ap (λ g. bodyIn g a) (sym e) ∙ body)
+
+  pub back-none : OneOf (0 ∷ 2 ∷ 3 ∷ 4 ∷ 5 ∷ 6 ∷ []) (tagOf fate-type f) → [] ≡ bodyBack xs
+  back-none o = sym (tag-unchecked f a o .1) ∙ body
+
+-- the frame of a reply with the top bits 10 is read back as the reply
+module _ (reply : List ℕ) (size : Bounded reply) (top : headerOf reply / 64 ≡ 2) where
+  is-checked : headed reply ≡ Checked (length reply)
+  unfolding headed
+  is-checked = rw (eq-eqb _ _ top)
+
+  pub frame-back : Octets (frame reply) → bodyBack (frame reply) ≡ reply
+  unfolding bodyBack checked
+  frame-back o =
+      rw (round-trip reply (omega arith) (unframed-octets reply o) (replicate mostGathered 0) cleared-room, is-checked, append-assoc)
+      (take-append-seam reply _)

@@ -1,0 +1,3 @@
+pub mod LawsLines
+pub mod LawsReadBack
+pub mod LawsTurns

@@ -1,0 +1,18 @@
+-- Each way out has the test that `separator` makes. Assumes nothing.
+use borrow.Author.Needs.{needs}
+use borrow.Author.Tests.{eq-eqb, ne-eqb}
+use Rattle.ncp.specs.Lines.{digits, separator, shown}
+use Rattle.ncp.proofs.line.shown.Statement.{statement}
+use Rattle.ncp.proofs.line.shown.Tie as tie
+
+pub shown-spec : {M : Type 1} → statement M
+unfolding digits separator shown
+shown-spec =
+    tie.close
+    (tie.spec
+    (λ c. search needs)
+    (λ c. search needs)
+    (λ c. search needs)
+    (λ c. search needs)
+    (λ c. rw (eq-eqb _ _ (c .if1 .taken)))
+    (λ c. rw (ne-eqb _ _ (c .if1 .left))))

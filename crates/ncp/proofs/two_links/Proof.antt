@@ -1,0 +1,16 @@
+-- What setup returns for these settings. Assumes nothing.
+use mathlib.Core.Path.{ap}
+use borrow.Author.Needs.{needs}
+use Rattle.engine.specs.Marked.{freshBox}
+use Rattle.ncp.proofs.two_links.Statement.{statement}
+use Rattle.ncp.proofs.two_links.Tie as tie
+
+pub two-links-spec : {M : Type 1} → statement M
+unfolding freshBox
+two-links-spec =
+    tie.close
+    (tie.spec
+    (λ c. search needs)
+    (λ c. search needs)
+    (λ c κs. search needs)
+    (λ c. ap (λ t. t .device) (c .before .setup .ensures)))

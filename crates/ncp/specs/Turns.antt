@@ -1,0 +1,51 @@
+-- One call of the program (01, Bodies and their replies: "prints each reply body").
+use mathlib.Core.Bool.{cond}
+use mathlib.Core.List.{List, []}
+use mathlib.Core.Path.{_≡_}
+use Prim.Native.Nat.{ℕ}
+use lib.Dec.{eqb}
+use lib.ListN.{replicate}
+use Rattle.octets.specs.Writing.{Wrote}
+use Rattle.hdlc.specs.declared.reader.Reader.{Reader}
+use Rattle.hdlc.specs.Reading.{mostGathered, fresh, held, Outcome, run}
+use Rattle.hdlc.specs.Wire.{bodyIn}
+use Rattle.device.specs.declared.state.Device.{Device}
+use Rattle.engine.specs.Engine.{engine}
+use Rattle.serial.specs.declared.call.Answer.{Answer}
+use Rattle.serial.specs.declared.call.Answer.the-variants.{Read, BadState, SmallAssembly, SmallOutput}
+use Rattle.serial.specs.Receiving.{numberOf, leastOutput, Result, receive}
+use Rattle.ncp.specs.declared.turn.Turn.{Turn}
+use Rattle.ncp.specs.Lines.{lineOf}
+
+-- the receiving call, lent a cleared output
+abbrev pub received : Device → Reader → List ℕ → List ℕ → Result
+received d r input a = receive d r input a (replicate leastOutput 0)
+
+-- the checked body that a call read, at the front of the assembly buffer
+abbrev pub requestIn : Answer → List ℕ → List ℕ
+requestIn (Read f) a = bodyIn f a
+requestIn BadState a = []
+requestIn SmallAssembly a = []
+requestIn SmallOutput a = []
+
+-- the engine's reply to it, where a frame was answered
+unfoldable pub replyBody : Device → Result → List ℕ
+replyBody d r = cond (eqb (numberOf (r .answer)) 1) (engine d (requestIn (r .answer) (r .assembly)) .reply) []
+
+-- a turn gives what the receiving call gives, and the line of the reply stands first in the space lent for it
+pub record Took (d : Device) (r : Result) (t : Turn) (a before after : List ℕ) : Type 0 where
+  pub read : t .read ≡ r .read
+  pub device : t .device ≡ r .device
+  pub reader : t .reader ≡ r .reader
+  pub assembly : a ≡ r .assembly
+  pub line : Wrote before after 0 (t .len) (lineOf (replyBody d r))
+
+-- ---- a reply is known by its frame
+
+-- a frame as a fresh reader reads it into a cleared assembly buffer
+abbrev pub readBack : List ℕ → Outcome
+readBack frame = run (held fresh (replicate mostGathered 0)) frame
+
+-- its body, where it is checked
+unfoldable pub bodyBack : List ℕ → List ℕ
+bodyBack frame = bodyIn (readBack frame .fate) (readBack frame .state .assembly)
