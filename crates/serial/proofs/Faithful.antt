@@ -13,7 +13,7 @@ use Rattle.octets.proofs.LawsTests.{chosen}
 use Rattle.hdlc.specs.declared.reader.Fate.{Fate}
 use Rattle.hdlc.specs.declared.reader.Fate.the-variants.{Unfinished, Checked, Short, WrongCheck, TooLong, CutEscape, BadHeader}
 use Rattle.hdlc.specs.Frame.{frame, stuffed}
-use Rattle.hdlc.specs.Reading.{number, mostGathered, fresh, held}
+use Rattle.hdlc.specs.Reading.{number, mostGathered, fresh}
 use Rattle.hdlc.specs.States.{openPiece}
 use Rattle.hdlc.specs.Wire.{call}
 use Rattle.hdlc.proofs.ClosedForm.{open-holds}

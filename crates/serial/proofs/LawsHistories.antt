@@ -1,10 +1,10 @@
 -- A history's calls, one by one and all: what stands between two calls, told by the octets read so far. Assumes nothing.
 use mathlib.Core.Path.{_≡_, refl, sym, ap, ap₂, _∙_}
-use mathlib.Core.Bool.{true, false, cond, _||_}
+use mathlib.Core.Bool.{true, false}
 use mathlib.Core.List.{List, [], _∷_, _++_, map, map-append, foldl, foldl-append}
 use Prim.Native.Nat.{ℕ, _≤_}
 use native.Mathlib.Omega.{arith}
-use borrow.Author.Tests.{ltb-false, lt-ltb}
+use borrow.Author.Tests.{ltb-false}
 use lib.Dec.{eqb, ltb}
 use lib.ListN.{length, take}
 use Rattle.octets.specs.Runs.{each}
@@ -13,7 +13,7 @@ use Rattle.octets.proofs.LawsTests.{by-test}
 use Rattle.hdlc.specs.Frame.{frame}
 use Rattle.hdlc.specs.Reading.{number, mostGathered, held, Outcome, run}
 use Rattle.hdlc.specs.Rules.{rules as readerRules}
-use Rattle.hdlc.specs.States.{holding, closed}
+use Rattle.hdlc.specs.States.{closed}
 use Rattle.hdlc.specs.Wire.{told as toldOf, verdicts, finished, ended, grown, unfinished, call, callReads}
 use Rattle.hdlc.proofs.ClosedForm.{call-closed, same-room}
 use Rattle.hdlc.proofs.LawsCalls.{After, after-call, call-tells}
@@ -24,7 +24,7 @@ use Rattle.engine.specs.Merged.{deviceStep, deviceAfter, repliesTo}
 use Rattle.engine.proofs.LawsRepliesInOrder.{replies-append}
 use Rattle.engine.proofs.RulesKept.{bodies-keep}
 use Rattle.serial.specs.declared.call.Answer.{Answer}
-use Rattle.serial.specs.declared.call.Answer.the-variants.{Read, SmallAssembly, SmallOutput}
+use Rattle.serial.specs.declared.call.Answer.the-variants.{SmallAssembly, SmallOutput}
 use Rattle.serial.specs.Receiving.{numberOf, leastOutput, breaksRules, refused, answered, receive}
 use Rattle.serial.specs.Histories.{Lent, own, short, Call, State, lentFrom, leftIn, gives, next, replyIn, repliesFrom, readFrom, isRefused, readBy, laidFrom, checkedOf, checkedIn, told, tells, meant}
 use Rattle.serial.proofs.LawsReceiving.{answered-device, answered-reply, answered-octets, answered-read}

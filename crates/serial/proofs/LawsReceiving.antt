@@ -18,7 +18,6 @@ use Rattle.hdlc.specs.Rules.{rules as readerRules}
 use Rattle.hdlc.specs.Wire.{bodyIn, told}
 use Rattle.device.specs.declared.state.Device.{Device}
 use Rattle.device.specs.Rules.{rules}
-use Rattle.engine.specs.Engine.{engine}
 use Rattle.engine.specs.Merged.{deviceAfter, repliesTo}
 use Rattle.serial.specs.declared.call.Answer.the-variants.{Read}
 use Rattle.serial.specs.Receiving.{breaksRules, answered}

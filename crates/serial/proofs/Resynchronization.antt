@@ -1,11 +1,10 @@
 -- PROMISE: no noise leaves the box deaf. If what a history's calls read, laid end to end, is any octets xs, then 7E, then the frame of a
 -- body b of 2 to 1,300 octets with top bits 10, then b is the last checked body, and the last reply is the engine's to b, on the box after
 -- the checked bodies of xs and 7E. Assumes nothing.
-use mathlib.Core.Path.{_≡_, refl, sym, ap, ap₂, _∙_}
+use mathlib.Core.Path.{_≡_, sym, ap, _∙_}
 use mathlib.Core.List.{List, [], _∷_, _++_, append-assoc, map}
 use Prim.Native.Nat.{ℕ, _/_}
 use borrow.Author.Tests.{eq-eqb}
-use lib.ListN.{length, getD}
 use lib.Seq.{take-length}
 use Rattle.octets.specs.Octets.{Octets}
 use Rattle.hdlc.specs.Kinds.{isFlag}

@@ -3,7 +3,7 @@
 -- same order, and at the end its values in every row of the table and its last status. Assumes nothing.
 use mathlib.Core.Path.{_≡_, refl, sym, ap, _∙_}
 use mathlib.Core.Bool.{cond}
-use mathlib.Core.List.{List, [], _∷_, map}
+use mathlib.Core.List.{[], _∷_, map}
 use Prim.Native.Nat.{ℕ, _<_}
 use lib.Dec.{ltb}
 use Rattle.hdlc.specs.Frame.{frame}
@@ -16,7 +16,7 @@ use Rattle.engine.proofs.Separation.{separation}
 use Rattle.engine.proofs.LawsRepliesInOrder.{picked-replies}
 use Rattle.serial.specs.Histories.{Setup, deviceFrom, History, endOf, bodies, deviceIn}
 use Rattle.serial.specs.Links.{settingsIn, mergedIn, octetsTo, bodiesTo, valuesOn, statusOn}
-use Rattle.serial.proofs.Faithful.{Faithful, faithful}
+use Rattle.serial.proofs.Faithful.{faithful}
 
 pub record Alike (s : Setup) (k : ℕ) (g h : History) : Type 0 where
   pub bodies : bodiesTo s k g ≡ bodiesTo s k h

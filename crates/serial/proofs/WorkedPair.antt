@@ -17,7 +17,7 @@ use Rattle.device.specs.State.{goodText, isText, fresh}
 use Rattle.device.specs.Setup.{isSetup, setupFor}
 use Rattle.engine.specs.Engine.{linkOf, isSetUp}
 use Rattle.engine.specs.Merged.{isReset, isPower, effectOf, effectItem, itemOf, merged}
-use Rattle.serial.specs.Histories.{Setup, Lent, own, short, Call, History, isRefused, readBy, laidFrom, laid, checkedOf, checkedIn, bodies}
+use Rattle.serial.specs.Histories.{Setup, own, short, Call, History, isRefused, readBy, laidFrom, laid, checkedOf, checkedIn, bodies}
 use Rattle.serial.specs.Links.{mergedIn}
 use Rattle.serial.proofs.Separate.{Alike, separate}
 

@@ -9,7 +9,7 @@ use Rattle.device.specs.declared.state.Device.{Device}
 use Rattle.command.specs.View.{viewOf}
 use Rattle.command.specs.Value.{valueOf}
 use Rattle.engine.specs.Merged.{Item, merged, repliesOn, picked}
-use Rattle.serial.specs.Histories.{Setup, deviceFrom, History, endOf, repliesIn, bodies}
+use Rattle.serial.specs.Histories.{Setup, deviceFrom, History, repliesIn, bodies}
 
 -- what setup made of its settings
 abbrev pub settingsIn : Setup → Settings

@@ -4,7 +4,7 @@ use mathlib.Core.List.{List, []}
 use Prim.Native.Nat.{ℕ, _/_, _≤_}
 use native.Mathlib.Omega.{arith}
 use borrow.Author.Needs.{needs}
-use lib.ListN.{length, take, getD}
+use lib.ListN.{length, getD}
 use lib.Seq.{length-take-le, getD-take}
 use Rattle.hdlc.specs.declared.reader.Fate.the-variants.{Checked}
 use Rattle.hdlc.specs.Reading.{held, outcome, run}

@@ -1,12 +1,11 @@
 -- The engine's reply stands first in its space, and its frame fits the output. Assumes nothing.
-use mathlib.Core.Path.{_≡_, sym, ap}
+use mathlib.Core.Path.{_≡_}
 use mathlib.Core.List.{List}
 use Prim.Native.Nat.{ℕ}
 use native.Mathlib.Omega.{arith}
 use borrow.Author.Needs.{needs}
 use lib.ListN.{length, take}
 use Rattle.octets.proofs.LawsWriting.{front-count, front-taken}
-use Rattle.hdlc.specs.Frame.{writing}
 use Rattle.hdlc.proofs.FrameBounds.{frame-bounds}
 use Rattle.engine.specs.Engine.{engine}
 use Rattle.engine.proofs.ReplyBounds.{Bounded, reply-bounds}
