@@ -1,9 +1,11 @@
 // Published vectors, run through the code. Each line says what went in and what came out; the file stdout holds what must come out, from
 // the sources that the comments name and from 01's rules, never from this program.
 mod boxes;
+mod cases;
 mod checks;
 mod commands;
 mod frames;
+mod hex;
 mod integers;
 mod rows;
 mod setups;
