@@ -74,7 +74,7 @@ pub fn bodies(device: Device, text: &[u8]) {
         let end = find_octet(rest, 0, b',');
         device = spelled(device, show::front(rest, end));
         if rest.len() <= end {
-            show::text(b"\n");
+            show::letter(b'\n');
             return;
         }
         show::text(b", then");

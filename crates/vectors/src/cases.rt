@@ -1,4 +1,5 @@
 // Vectors written as text, a semicolon between two, each run by the module whose it is.
+use crate::checks;
 use crate::frames;
 use crate::hex::read_hex;
 use crate::integers;
@@ -9,7 +10,8 @@ use crate::wires;
 use octets::find_octet;
 
 pub enum Kind {
-    // Octets in hex: a packed integer to read, a body to frame, octets of the wire, an address for setup.
+    // Octets in hex: to check, a packed integer to read, a body to frame, octets of the wire, an address for setup.
+    Check,
     Read,
     Frame,
     Wire,
@@ -62,6 +64,7 @@ fn spelled(kind: Kind, text: &[u8]) {
 
 fn octets(kind: Kind, octets: &[u8]) {
     match kind {
+        Kind::Check => checks::line(octets),
         Kind::Read => integers::read(octets),
         Kind::Frame => frames::line(octets),
         Kind::Wire => wires::one(octets),

@@ -320,26 +320,29 @@ fn order() {
 
 // Bodies of 1,300 octets: payloads that are ignored, a name without a zero, odd octets of ports, a port again and again, a name too long.
 fn long() {
-    let mut body = [0x61u8; 1300];
-    body[0] = 0x81;
-    body[1] = 0x00;
-    far(b"box 2: 81 00, 1298 times 61", &body);
-    body[1] = 0x01;
-    far(b"box 2: 81 01, 1298 times 61", &body);
-    body[1] = 0x03;
-    body[2] = 0x44;
-    far(b"box 2: 81 03 44, 1297 times 61", &body);
-    body[2] = 0x5c;
-    far(b"box 2: 81 03 5c, 1297 times 61", &body);
-    far(b"box 2: 81 03 5c, 1296 times 61", &body[..1299]);
-    body[2] = 0x44;
-    body[1299] = 0x00;
-    far(b"box 2: 81 03 44, 1296 times 61, 00", &body);
+    far(b"box 2: 81 00, 1298 times 61", 0x00, 0x61, 0x61, 1300);
+    far(b"box 2: 81 01, 1298 times 61", 0x01, 0x61, 0x61, 1300);
+    far(b"box 2: 81 03 44, 1297 times 61", 0x03, 0x44, 0x61, 1300);
+    far(b"box 2: 81 03 5c, 1297 times 61", 0x03, 0x5c, 0x61, 1300);
+    far(b"box 2: 81 03 5c, 1296 times 61", 0x03, 0x5c, 0x61, 1299);
+    far(
+        b"box 2: 81 03 44, 1296 times 61, 00",
+        0x03,
+        0x44,
+        0x00,
+        1300,
+    );
 }
 
-// A body too long to print, and what it is in words.
-fn far(words: &[u8], body: &[u8]) {
+// A body too long to print, told in words: 81, the command, an octet, 61 as often as there is place, and the last of 1,300; its first
+// `count` octets.
+fn far(words: &[u8], command: u8, third: u8, last: u8, count: usize) {
+    let mut body = [0x61u8; 1300];
+    body[0] = 0x81;
+    body[1] = command;
+    body[2] = third;
+    body[1299] = last;
     show::text(words);
-    reply(plain(2), body);
-    show::text(b"\n");
+    reply(plain(2), show::front(&body, count));
+    show::letter(b'\n');
 }

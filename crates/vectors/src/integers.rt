@@ -40,7 +40,7 @@ fn written(n: u32) {
     show::number(n as usize);
     show::text(b" =");
     show::octets(octets);
-    show::text(b",");
+    show::letter(b',');
     found(read_packed(octets, 0));
 }
 
@@ -58,18 +58,18 @@ fn put(n: u32, out: &mut [u8]) -> usize {
 pub fn read(octets: &[u8]) {
     show::text(b"read");
     show::octets(octets);
-    show::text(b":");
+    show::letter(b':');
     found(read_packed(octets, 0));
 }
 
 fn found(p: Packed) {
     match p {
         Packed::Number(n, next) => {
-            show::text(b" ");
+            show::letter(b' ');
             show::number(n as usize);
             show::text(b" up to ");
             show::number(next);
-            show::text(b"\n");
+            show::letter(b'\n');
         }
         Packed::Unreadable => show::text(b" unreadable\n"),
     }

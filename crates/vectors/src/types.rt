@@ -299,7 +299,7 @@ pub fn line(types: &[u8], payload: &[u8]) {
     if let Answer::Leaves(count) = answer {
         leaves(count, &list);
     }
-    show::text(b"\n");
+    show::letter(b'\n');
 }
 
 // A reading into the first of eight sevens, and what the eight are then.
@@ -312,7 +312,7 @@ pub fn into(types: &[u8], payload: &[u8], room: usize) {
     tell(within(types, payload, &mut list, room));
     show::text(b", now");
     numbers(&list);
-    show::text(b"\n");
+    show::letter(b'\n');
 }
 
 // So many C, and zeros.
@@ -344,7 +344,7 @@ fn far(types: &[u8], zeros: usize, room: usize) {
         show::text(b", last");
         last(count, &list);
     }
-    show::text(b"\n");
+    show::letter(b'\n');
 }
 
 // A reading into the first `room` numbers of a list that has them.
@@ -358,7 +358,7 @@ fn within(types: &[u8], payload: &[u8], list: &mut [u32], room: usize) -> Answer
 fn case(types: &[u8], payload: &[u8]) {
     show::text(b"type ");
     show::text(types);
-    show::text(b",");
+    show::letter(b',');
     show::octets(payload);
 }
 
@@ -397,9 +397,9 @@ fn leaves(count: usize, list: &[u32]) {
 
 fn mark(first: bool) {
     if first {
-        show::text(b":");
+        show::letter(b':');
     } else {
-        show::text(b",");
+        show::letter(b',');
     }
 }
 
@@ -421,7 +421,7 @@ fn leaf(list: &[u32]) {
     if list.len() < 3 {
         return;
     }
-    show::text(b" ");
+    show::letter(b' ');
     letter(list[0]);
     numbers(&list[1..3]);
 }
@@ -430,8 +430,7 @@ fn letter(code: u32) {
     if 255 < code {
         return;
     }
-    let octet = [code as u8];
-    show::text(&octet);
+    show::letter(code as u8);
 }
 
 // Each number, after a space.
@@ -444,6 +443,6 @@ fn numbers(list: &[u32]) {
 }
 
 fn spaced(n: u32) {
-    show::text(b" ");
+    show::letter(b' ');
     show::number(n as usize);
 }

@@ -36,38 +36,50 @@ fn lines(text: &[u8]) {
 // 1,302 octets are gathered, and no more (01, Octets on the wire).
 pub fn run_long() {
     let mut assembly = [0u8; 1302];
-    let octets = [0x81u8; 1303];
-    let mut frame = [0u8; 2606];
-    let count = framed(&octets[..1300], &mut frame);
-    show::text(b"1300 octets framed:");
-    feed(Reader::fresh(), show::front(&frame, count), &mut assembly);
-    show::text(b"\n1302 octets and a flag:");
-    let full = feed(Reader::fresh(), &octets[..1302], &mut assembly);
-    feed(full, b"\x7e", &mut assembly);
-    show::text(b"\n1302 octets, an escape and a flag:");
-    feed(full, b"\x7d\x7e", &mut assembly);
-    show::text(b"\n1303 octets and a flag:");
-    let over = feed(Reader::fresh(), &octets[..1303], &mut assembly);
-    feed(over, b"\x7e", &mut assembly);
-    show::text(b"\n1303 octets, an escape and a flag:");
-    feed(over, b"\x7d\x7e", &mut assembly);
+    longest(&mut assembly);
+    gathered(1302, &mut assembly);
+    let over = gathered(1303, &mut assembly);
     // The discard is not forgotten at the end of a call, and ends at the flag.
-    show::text(b"\n1303 octets, and two frames:");
+    show::text(b"1303 octets, and two frames:");
     feed(
         over,
         b"\x81\x00\x53\x9a\x7e\x81\x00\x53\x9a\x7e",
         &mut assembly,
     );
-    show::text(b"\n");
+    show::letter(b'\n');
+}
+
+fn longest(assembly: &mut [u8]) {
+    let body = [0x81u8; 1300];
+    let mut frame = [0u8; 2606];
+    let count = framed(&body, &mut frame);
+    show::text(b"1300 octets framed:");
+    feed(Reader::fresh(), show::front(&frame, count), assembly);
+    show::letter(b'\n');
+}
+
+// So many octets, and then a flag, or an escape and a flag; the reader after the octets.
+fn gathered(count: usize, assembly: &mut [u8]) -> Reader {
+    let octets = [0x81u8; 1303];
+    show::number(count);
+    show::text(b" octets and a flag:");
+    let reader = feed(Reader::fresh(), show::front(&octets, count), assembly);
+    feed(reader, b"\x7e", assembly);
+    show::letter(b'\n');
+    show::number(count);
+    show::text(b" octets, an escape and a flag:");
+    feed(reader, b"\x7d\x7e", assembly);
+    show::letter(b'\n');
+    reader
 }
 
 pub fn one(wire: &[u8]) {
     let mut assembly = [0u8; 1302];
     show::text(b"wire");
     show::octets(wire);
-    show::text(b":");
+    show::letter(b':');
     feed(Reader::fresh(), wire, &mut assembly);
-    show::text(b"\n");
+    show::letter(b'\n');
 }
 
 fn two(first: &[u8], second: &[u8]) {
@@ -76,10 +88,10 @@ fn two(first: &[u8], second: &[u8]) {
     show::octets(first);
     show::text(b" |");
     show::octets(second);
-    show::text(b":");
+    show::letter(b':');
     let reader = feed(Reader::fresh(), first, &mut assembly);
     feed(reader, second, &mut assembly);
-    show::text(b"\n");
+    show::letter(b'\n');
 }
 
 // Offers a chunk until it is used up, and says what each call gave.
