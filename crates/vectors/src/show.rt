@@ -35,3 +35,11 @@ pub fn front(xs: &[u8], n: usize) -> &[u8] {
     }
     &xs[0..n]
 }
+
+// What follows the octet at `n`, or nothing where there is none.
+pub fn after(xs: &[u8], n: usize) -> &[u8] {
+    if xs.len() <= n {
+        return &xs[0..0];
+    }
+    &xs[n + 1..]
+}
