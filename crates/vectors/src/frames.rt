@@ -1,33 +1,27 @@
 // Frames as they are written. Each body's check was worked out apart from this code, an octet at a time by a table of 256.
+use crate::cases;
+use crate::cases::Kind;
 use crate::show;
 use hdlc::Reader;
 use hdlc::write_frame;
 
 pub fn run() {
     // Nothing to escape: n + 4 octets.
-    line(b"\x81\x00");
+    lines(b"81 00");
     // Each of the five escaped octets in the body.
-    line(b"\x81\x7e");
-    line(b"\x81\x7d");
-    line(b"\x81\x11");
-    line(b"\x81\x13");
-    line(b"\x81\xf8");
+    lines(b"81 7e; 81 7d; 81 11; 81 13; 81 f8");
     // Each of the five as the low octet of the check, and as the high one.
-    line(b"\x82\x02\x5b");
-    line(b"\x81\x35");
-    line(b"\x81\x39");
-    line(b"\x81\x19");
-    line(b"\x81\x65");
-    line(b"\x81\xd3");
-    line(b"\x81\xe0");
-    line(b"\x81\x7f");
-    line(b"\x81\x5d");
-    line(b"\x81\x71");
+    lines(b"82 02 5b; 81 35; 81 39; 81 19; 81 65");
+    lines(b"81 d3; 81 e0; 81 7f; 81 5d; 81 71");
     // Every octet of body and check escaped: 2 n + 6 octets, the full 16.
-    line(b"\x7e\x7e\xf8\x11\x7e");
+    lines(b"7e 7e f8 11 7e");
 }
 
-fn line(body: &[u8]) {
+fn lines(text: &[u8]) {
+    cases::run(Kind::Frame, text);
+}
+
+pub fn line(body: &[u8]) {
     let mut out = [0u8; 38];
     let count = framed(body, &mut out);
     show::text(b"frame of");

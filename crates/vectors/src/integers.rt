@@ -1,4 +1,6 @@
 // Packed integers: 000, appendix B.1, and what is no packed integer.
+use crate::cases;
+use crate::cases::Kind;
 use crate::show;
 use packed::Packed;
 use packed::read_packed;
@@ -16,18 +18,17 @@ pub fn run() {
     written(16385);
     written(2097151);
     // Nothing there, and octets that ran out.
-    read(b"");
-    read(b"\x80");
-    read(b"\xff\xff");
+    lines(b" ; 80; ff ff");
     // A third octet with its top bit set: 2,097,152 has no spelling.
-    read(b"\x80\x80\x80\x01");
+    lines(b"80 80 80 01");
     // A shorter spelling exists: of 1, of 0, of 127 and of 128.
-    read(b"\x81\x00");
-    read(b"\x80\x00");
-    read(b"\xff\x00");
-    read(b"\x80\x81\x00");
+    lines(b"81 00; 80 00; ff 00; 80 81 00");
     // What follows a number is not read.
-    read(b"\x81\x01\x81\x00");
+    lines(b"81 01 81 00");
+}
+
+fn lines(text: &[u8]) {
+    cases::run(Kind::Read, text);
 }
 
 // A number written, and what was written read back.
@@ -39,7 +40,7 @@ fn written(n: u32) {
     show::number(n as usize);
     show::text(b" =");
     show::octets(octets);
-    show::text(b",");
+    show::letter(b',');
     found(read_packed(octets, 0));
 }
 
@@ -54,21 +55,21 @@ fn put(n: u32, out: &mut [u8]) -> usize {
     write_packed(out, 0, n)
 }
 
-fn read(octets: &[u8]) {
+pub fn read(octets: &[u8]) {
     show::text(b"read");
     show::octets(octets);
-    show::text(b":");
+    show::letter(b':');
     found(read_packed(octets, 0));
 }
 
 fn found(p: Packed) {
     match p {
         Packed::Number(n, next) => {
-            show::text(b" ");
+            show::letter(b' ');
             show::number(n as usize);
             show::text(b" up to ");
             show::number(next);
-            show::text(b"\n");
+            show::letter(b'\n');
         }
         Packed::Unreadable => show::text(b" unreadable\n"),
     }

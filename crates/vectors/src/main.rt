@@ -1,11 +1,11 @@
 // Published vectors, run through the code. Each line says what went in and what came out; the file stdout holds what must come out, from
-// the sources that the comments name and from 01's rules, never from this program.
+// the sources that the comments name, here and in stdin, and from 01's rules, never from this program.
 mod boxes;
+mod cases;
 mod checks;
-mod commands;
 mod frames;
+mod hex;
 mod integers;
-mod rows;
 mod setups;
 mod show;
 mod types;
@@ -19,6 +19,5 @@ fn main() {
     wires::run_long();
     types::run();
     setups::run();
-    commands::run();
-    rows::run();
+    boxes::run();
 }

@@ -1,5 +1,7 @@
 // Setups, each with its number of 01's table and with the vendor, link count, text and address of the box that it returned.
 use crate::boxes::bodies;
+use crate::cases;
+use crate::cases::Kind;
 use crate::show;
 use device::Answer;
 use device::setup;
@@ -39,25 +41,31 @@ fn vendors() {
 
 // Text of 0 to 32 octets without a zero, first, in the middle, last.
 fn texts() {
-    text(b"x");
-    text(b"thirty-one octets of the text..");
-    text(b"thirty-two octets of the text...");
-    text(b"thirty-three octets of the text..");
-    text(b"\x01\x7e\x80\xff");
-    text(b"\x00");
-    text(b"\x00xy");
-    text(b"x\x00y");
-    text(b"xy\x00");
-    text(b"thirty-one octets, and the zero\x00");
+    cases::run(
+        Kind::Text,
+        b"x;\
+          thirty-one octets of the text..;\
+          thirty-two octets of the text...;\
+          thirty-three octets of the text..;\
+          \x01\x7e\x80\xff;\
+          \x00;\
+          \x00xy;\
+          x\x00y;\
+          xy\x00;\
+          thirty-one octets, and the zero\x00",
+    );
 }
 
 // An address of 8 octets, in network order.
 fn addresses() {
-    address(b"\x01\x02\x03\x04\x05\x06\x07\x08");
-    address(b"\xff\xff\xff\xff\xff\xff\xff\xff");
-    address(b"");
-    address(b"\x01\x02\x03\x04\x05\x06\x07");
-    address(b"\x01\x02\x03\x04\x05\x06\x07\x08\x09");
+    cases::run(
+        Kind::Address,
+        b"01 02 03 04 05 06 07 08;
+          ff ff ff ff ff ff ff ff;
+          ;
+          01 02 03 04 05 06 07;
+          01 02 03 04 05 06 07 08 09",
+    );
 }
 
 // All good, and all good but one.
@@ -100,11 +108,11 @@ fn numbers(links: usize, vendor: u32) {
     line(links, vendor, b"", b"\x00\x00\x00\x00\x00\x00\x00\x00");
 }
 
-fn text(octets: &[u8]) {
+pub fn text(octets: &[u8]) {
     line(2, 0, octets, b"\x00\x00\x00\x00\x00\x00\x00\x00");
 }
 
-fn address(octets: &[u8]) {
+pub fn address(octets: &[u8]) {
     line(2, 0, b"", octets);
 }
 

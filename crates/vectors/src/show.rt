@@ -5,6 +5,11 @@ pub fn text(word: &[u8]) {
     io::write_all(STDOUT_FILENO, word);
 }
 
+pub fn letter(x: u8) {
+    let word = [x];
+    text(&word);
+}
+
 pub fn number(n: usize) {
     io::print_decimal(STDOUT_FILENO, n as u64);
 }
@@ -19,7 +24,7 @@ pub fn octets(xs: &[u8]) {
 }
 
 fn octet(x: u8) {
-    text(b" ");
+    letter(b' ');
     io::print_hex(STDOUT_FILENO, x as u64, 2);
 }
 
@@ -29,4 +34,12 @@ pub fn front(xs: &[u8], n: usize) -> &[u8] {
         return xs;
     }
     &xs[0..n]
+}
+
+// What follows the octet at `n`, or nothing where there is none.
+pub fn after(xs: &[u8], n: usize) -> &[u8] {
+    if xs.len() <= n {
+        return &xs[0..0];
+    }
+    &xs[n + 1..]
 }

@@ -1,5 +1,7 @@
 // Type strings, by 01's rules of that name: a payload read under a string, with each leaf's letter, start and length, or the refusal.
 // Octets that may be any are the letter of the item that they belong to.
+use crate::cases;
+use crate::cases::Kind;
 use crate::show;
 use datatype::Answer;
 use datatype::read_typed;
@@ -33,272 +35,263 @@ fn beacon() {
 
 // The strings that 000, section 3, explains.
 fn examples() {
-    line(b"C6U", b"C6666666666666666UU\x00");
-    line(b"CLLD", b"CLLLLLLLLDD");
-    line(b"CLLDU", b"CLLLLLLLL\x02\x00DDUU\x00");
-    line(b"CLLdU", b"CLLLLLLLL\x02\x00ddUU\x00");
-    line(
-        b"Lt(ES)t(6D)",
-        b"LLLL\x0a\x00EEEEEEEESS\x12\x006666666666666666DD",
+    lines(
+        b"C6U:C6666666666666666UU\x00;\
+          CLLD:CLLLLLLLLDD;\
+          CLLDU:CLLLLLLLL\x02\x00DDUU\x00;\
+          CLLdU:CLLLLLLLL\x02\x00ddUU\x00;\
+          Lt(ES)t(6D):LLLL\x0a\x00EEEEEEEESS\x12\x006666666666666666DD;\
+          Ldd:LLLL\x0a\x00EEEEEEEESS\x12\x006666666666666666DD",
     );
-    line(b"Ldd", b"LLLL\x0a\x00EEEEEEEESS\x12\x006666666666666666DD");
-    // 000 reads these two; 01 has no empty brackets, and consumes everything inside each t.
-    line(
-        b"Lt()t(6D)",
-        b"LLLL\x0a\x00EEEEEEEESS\x12\x006666666666666666DD",
-    );
-    line(
-        b"Lt(ES)t(6D)",
-        b"LLLL\x0d\x00EEEEEEEESSUU\x00\x12\x006666666666666666DD",
-    );
-    line(b"A(6)", b"66666666666666666666666666666666");
-    line(
-        b"A(6E)",
-        b"6666666666666666EEEEEEEE6666666666666666EEEEEEEE",
+    // 000 reads the first two of these; 01 has no empty brackets, and consumes everything inside each t.
+    lines(
+        b"Lt()t(6D):LLLL\x0a\x00EEEEEEEESS\x12\x006666666666666666DD;\
+          Lt(ES)t(6D):LLLL\x0d\x00EEEEEEEESSUU\x00\x12\x006666666666666666DD;\
+          A(6):66666666666666666666666666666666;\
+          A(6E):6666666666666666EEEEEEEE6666666666666666EEEEEEEE",
     );
 }
 
 // 004: each string that is well formed, under the numbers of its properties.
 fn thread() {
-    // 80, 5415.
-    line(b"6", b"6666666666666666");
-    // 81.
-    line(b"ESLccCC", b"EEEEEEEESSLLLLccCC");
-    // 83 to 85, 94, 5378, 5380, 5384 to 5386, 5388.
-    line(b"C", b"C");
-    // 86, 88, 5389, 5390, 5408.
-    line(b"D", b"DDD");
-    // 87, 89, 5377, 5397.
-    line(b"S", b"SS");
-    // 93, 5382, 5383, 5392, 5393, 5395, 5396.
-    line(b"b", b"\x01");
-    // 5376, 5379, 5406.
-    line(b"L", b"LLLL");
-    // 5394.
-    line(b"dSS", b"\x03\x00dddSSSS");
-    // 5398.
-    line(b"E", b"EEEEEEEE");
-    // 5407.
-    line(b"SC", b"SSC");
-    // 5412.
-    line(b"dS6S", b"\x02\x00ddSS6666666666666666SS");
+    // 6: 80, 5415.
+    // ESLccCC: 81.
+    // C: 83 to 85, 94, 5378, 5380, 5384 to 5386, 5388.
+    // D: 86, 88, 5389, 5390, 5408.
+    // S: 87, 89, 5377, 5397.
+    // b: 93, 5382, 5383, 5392, 5393, 5395, 5396.
+    // L: 5376, 5379, 5406.
+    // dSS: 5394.
+    // E: 5398.
+    // SC: 5407.
+    // dS6S: 5412.
+    lines(
+        b"6:6666666666666666;\
+          ESLccCC:EEEEEEEESSLLLLccCC;\
+          C:C;\
+          D:DDD;\
+          S:SS;\
+          b:\x01;\
+          L:LLLL;\
+          dSS:\x03\x00dddSSSS;\
+          E:EEEEEEEE;\
+          SC:SSC;\
+          dS6S:\x02\x00ddSS6666666666666666SS",
+    );
 }
 
 fn thread_arrays() {
-    // 90.
-    line(
-        b"A(t(6CbCbS))",
-        b"\x16\x006666666666666666C\x01C\x00SS\x16\x006666666666666666C\x00C\x01SS",
-    );
-    // 91.
-    line(
-        b"A(t(6CbCbb))",
-        b"\x15\x006666666666666666C\x01C\x00\x01\x15\x006666666666666666C\x00C\x01\x00",
-    );
-    // 92.
-    line(b"A(S)", b"SSSS");
-    // 5381.
-    line(b"A(C)", b"CC");
-    // 5387.
-    line(
-        b"A(t(ESLCcCbLLc))",
-        b"\x1b\x00EEEEEEEESSLLLLCcC\x01LLLLLLLLc\x1b\x00EEEEEEEESSLLLLCcC\x00LLLLLLLLc",
-    );
-    // 5391.
-    line(
-        b"A(t(ULE))",
-        b"\x11\x00UUUU\x00LLLLEEEEEEEE\x12\x00UUUUU\x00LLLLEEEEEEEE",
-    );
-    // 5400 to 5403, 5413, 5414. The last element is the t(i) that 5413 speaks of: its D is empty.
-    line(
-        b"A(t(iD))",
-        b"\x02\x00\x21D\x06\x00\x9e\x2aDDDD\x01\x00\x36",
-    );
-    // 5410.
-    line(
-        b"A(t(ESSScc))",
-        b"\x10\x00EEEEEEEESSSSSScc\x10\x00EEEEEEEESSSSSScc",
-    );
-    // 5411.
-    line(
-        b"A(t(6SC))",
-        b"\x13\x006666666666666666SSC\x13\x006666666666666666SSC",
+    // A(t(6CbCbS)): 90.
+    // A(t(6CbCbb)): 91.
+    // A(S): 92.
+    // A(C): 5381.
+    // A(t(ESLCcCbLLc)): 5387.
+    // A(t(ULE)): 5391.
+    // A(t(iD)): 5400 to 5403, 5413, 5414. The last element is the t(i) that 5413 speaks of: its D is empty.
+    // A(t(ESSScc)): 5410.
+    // A(t(6SC)): 5411.
+    lines(
+        b"A(t(6CbCbS)):\x16\x006666666666666666C\x01C\x00SS\x16\x006666666666666666C\x00C\x01SS;\
+          A(t(6CbCbb)):\x15\x006666666666666666C\x01C\x00\x01\x15\x006666666666666666C\x00C\x01\x00;\
+          A(S):SSSS;\
+          A(C):CC;\
+          A(t(ESLCcCbLLc)):\x1b\x00EEEEEEEESSLLLLCcC\x01LLLLLLLLc\x1b\x00EEEEEEEESSLLLLCcC\x00LLLLLLLLc;\
+          A(t(ULE)):\x11\x00UUUU\x00LLLLEEEEEEEE\x12\x00UUUUU\x00LLLLEEEEEEEE;\
+          A(t(iD)):\x02\x00\x21D\x06\x00\x9e\x2aDDDD\x01\x00\x36;\
+          A(t(ESSScc)):\x10\x00EEEEEEEESSSSSScc\x10\x00EEEEEEEESSSSSScc;\
+          A(t(6SC)):\x13\x006666666666666666SSC\x13\x006666666666666666SSC",
     );
 }
 
 // 004's strings with a bracket missing, and closed: 82, 5409 and 5399, of which 01 names the first two. X is 5404's and 5405's.
 fn thread_open() {
-    let children = b"\x17\x00EEEEEEEESSLLLLLLLLCCcCc\x17\x00EEEEEEEESSLLLLLLLLCCcCc";
-    line(b"A(t(ESLLCCcCc)", children);
-    line(b"A(t(ESLLCCcCc))", children);
-    let addresses = b"\x2a\x00EEEEEEEESS66666666666666666666666666666666\x0a\x00EEEEEEEESS";
-    line(b"A(t(ESA(6))", addresses);
-    line(b"A(t(ESA(6)))", addresses);
-    let routers = b"\x11\x00EEEEEEEESSCCCCCC\x01\x11\x00EEEEEEEESSCCCCCC\x00";
-    line(b"A(t(ESCCCCCCb)", routers);
-    line(b"A(t(ESCCCCCCb))", routers);
-    line(b"X", b"XXXXXXXX");
+    lines(
+        b"A(t(ESLLCCcCc):\x17\x00EEEEEEEESSLLLLLLLLCCcCc\x17\x00EEEEEEEESSLLLLLLLLCCcCc;\
+          A(t(ESLLCCcCc)):\x17\x00EEEEEEEESSLLLLLLLLCCcCc\x17\x00EEEEEEEESSLLLLLLLLCCcCc;\
+          A(t(ESA(6)):\x2a\x00EEEEEEEESS66666666666666666666666666666666\x0a\x00EEEEEEEESS;\
+          A(t(ESA(6))):\x2a\x00EEEEEEEESS66666666666666666666666666666666\x0a\x00EEEEEEEESS;\
+          A(t(ESCCCCCCb):\x11\x00EEEEEEEESSCCCCCC\x01\x11\x00EEEEEEEESSCCCCCC\x00;\
+          A(t(ESCCCCCCb)):\x11\x00EEEEEEEESSCCCCCC\x01\x11\x00EEEEEEEESSCCCCCC\x00;\
+          X:XXXXXXXX",
+    );
 }
 
 // The empty string fits only an empty payload.
 fn strings() {
-    line(b"", b"");
-    line(b"", b"\x00");
+    lines(
+        b":;\
+          :\x00",
+    );
     // No letter: 000's void, its A(I) and A(T(Ec)), and a blank.
-    line(b".", b"");
-    line(b"A(I)", b"\x01");
-    line(b"A(T(Ec))", b"\x09\x00EEEEEEEEc");
-    line(b"C C", b"CC");
+    lines(
+        b".:;\
+          A(I):\x01;\
+          A(T(Ec)):\x09\x00EEEEEEEEc;\
+          C C:CC",
+    );
 }
 
 // D and A stand last in their part.
 fn ends() {
-    line(b"DC", b"DC");
-    line(b"t(DC)", b"\x02\x00DC");
-    line(b"t(D)C", b"\x02\x00DDC");
-    line(b"A(C)C", b"CC");
-    line(b"t(A(C))C", b"\x02\x00CCC");
+    lines(
+        b"DC:DC;\
+          t(DC):\x02\x00DC;\
+          t(D)C:\x02\x00DDC;\
+          A(C)C:CC;\
+          t(A(C))C:\x02\x00CCC",
+    );
     // Neither stands directly inside A. 000 writes A(iD) for the commands 22 and 23.
-    line(b"A(D)", b"D");
-    line(b"A(iD)", b"\x21D");
-    line(b"A(A(C))", b"C");
-    line(b"A(CA(C))", b"CC");
-    line(b"A(t(A(C)))", b"\x02\x00CC\x01\x00C");
-    line(b"A(t(D))", b"\x02\x00DD\x00\x00");
+    lines(
+        b"A(D):D;\
+          A(iD):\x21D;\
+          A(A(C)):C;\
+          A(CA(C)):CC;\
+          A(t(A(C))):\x02\x00CC\x01\x00C;\
+          A(t(D)):\x02\x00DD\x00\x00",
+    );
 }
 
 // Empty, not opened, not closed, and opened by no t and no A.
 fn brackets() {
-    line(b"t()", b"\x00\x00");
-    line(b"A()", b"");
-    line(b"C)", b"C");
-    line(b"t(C))", b"\x01\x00C");
-    line(b"t(C", b"\x01\x00C");
-    line(b"A(C", b"C");
-    line(b"t", b"\x00\x00");
-    line(b"A", b"");
-    line(b"tC", b"\x01\x00C");
-    line(b"(C)", b"C");
-    line(b"C(C)", b"CC");
+    lines(
+        b"t():\x00\x00;\
+          A():;\
+          C):C;\
+          t(C)):\x01\x00C;\
+          t(C:\x01\x00C;\
+          A(C:C;\
+          t:\x00\x00;\
+          A:;\
+          tC:\x01\x00C;\
+          (C):C;\
+          C(C):CC",
+    );
 }
 
 // Four open at once, and five; five one after the other.
 fn depths() {
-    line(b"t(t(t(t(C))))", b"\x07\x00\x05\x00\x03\x00\x01\x00C");
-    line(
-        b"t(t(t(t(t(C)))))",
-        b"\x09\x00\x07\x00\x05\x00\x03\x00\x01\x00C",
-    );
-    line(b"A(t(A(t(C))))", b"\x06\x00\x01\x00C\x01\x00C");
-    line(b"A(t(A(t(t(C)))))", b"\x05\x00\x03\x00\x01\x00C");
-    line(
-        b"t(C)t(C)t(C)t(C)t(C)",
-        b"\x01\x00C\x01\x00C\x01\x00C\x01\x00C\x01\x00C",
+    lines(
+        b"t(t(t(t(C)))):\x07\x00\x05\x00\x03\x00\x01\x00C;\
+          t(t(t(t(t(C))))):\x09\x00\x07\x00\x05\x00\x03\x00\x01\x00C;\
+          A(t(A(t(C)))):\x06\x00\x01\x00C\x01\x00C;\
+          A(t(A(t(t(C))))):\x05\x00\x03\x00\x01\x00C;\
+          t(C)t(C)t(C)t(C)t(C):\x01\x00C\x01\x00C\x01\x00C\x01\x00C\x01\x00C",
     );
 }
 
 fn letters() {
     // The three that 004 does not use.
-    line(b"sle", b"sslllleeeeee");
+    lines(b"sle:sslllleeeeee");
     // Octets that ran out, and octets left over.
-    line(b"C", b"");
-    line(b"S", b"S");
-    line(b"6", b"666666666666666");
-    line(b"C", b"CC");
+    lines(
+        b"C:;\
+          S:S;\
+          6:666666666666666;\
+          C:CC",
+    );
     // The octet 01 is read above.
-    line(b"b", b"\x00");
-    line(b"b", b"\x02");
+    lines(
+        b"b:\x00;\
+          b:\x02",
+    );
 }
 
 fn integers_and_texts() {
-    line(b"i", b"\x7f");
-    line(b"i", b"\x80\x80\x01");
-    line(b"ii", b"\xb9\x0a\x7f");
-    line(b"i", b"");
-    line(b"i", b"\x80");
-    line(b"i", b"\x81\x00");
-    line(b"i", b"\x80\x80\x80\x01");
+    lines(
+        b"i:\x7f;\
+          i:\x80\x80\x01;\
+          ii:\xb9\x0a\x7f;\
+          i:;\
+          i:\x80;\
+          i:\x81\x00;\
+          i:\x80\x80\x80\x01",
+    );
     // Text with its zero, empty text, text without a zero, and an octet after it.
-    line(b"U", b"UU\x00");
-    line(b"U", b"\x00");
-    line(b"U", b"UU");
-    line(b"U", b"");
-    line(b"U", b"U\x00U");
+    lines(
+        b"U:UU\x00;\
+          U:\x00;\
+          U:UU;\
+          U:;\
+          U:U\x00U",
+    );
 }
 
 // The lengths of d and t.
 fn lengths() {
-    line(b"d", b"\x00\x00");
-    line(b"d", b"\x03\x00dd");
-    line(b"d", b"\x01\x00dd");
-    line(b"d", b"\x00");
+    lines(
+        b"d:\x00\x00;\
+          d:\x03\x00dd;\
+          d:\x01\x00dd;\
+          d:\x00",
+    );
     // High octet first would be 1.
-    line(b"d", b"\x00\x01d");
+    lines(b"d:\x00\x01d");
     // Not filled, overrun by its contents, past the end, and cut.
-    line(b"t(C)", b"\x02\x00CC");
-    line(b"t(CC)", b"\x01\x00CC");
-    line(b"t(C)", b"\x02\x00C");
-    line(b"t(C)", b"\x01");
+    lines(
+        b"t(C):\x02\x00CC;\
+          t(CC):\x01\x00CC;\
+          t(C):\x02\x00C;\
+          t(C):\x01",
+    );
     // What would do outside the t does not inside it.
-    line(b"t(U)C", b"\x01\x00U\x00");
-    line(b"t(i)C", b"\x01\x00\x80\x01");
-    line(b"t(d)C", b"\x02\x00\x01\x00d");
-    line(b"t(t(C))C", b"\x02\x00\x01\x00C");
+    lines(
+        b"t(U)C:\x01\x00U\x00;\
+          t(i)C:\x01\x00\x80\x01;\
+          t(d)C:\x02\x00\x01\x00d;\
+          t(t(C))C:\x02\x00\x01\x00C",
+    );
 }
 
 // Nothing left for D and A, and an element that is cut.
 fn rests() {
-    line(b"D", b"");
-    line(b"t(D)", b"\x00\x00");
-    line(b"CD", b"C");
-    line(b"A(C)", b"");
-    line(b"A(SC)", b"SSCSSC");
-    line(b"A(SC)", b"SSCSS");
+    lines(
+        b"D:;\
+          t(D):\x00\x00;\
+          CD:C;\
+          A(C):;\
+          A(SC):SSCSSC;\
+          A(SC):SSCSS",
+    );
 }
 
 // A refusal leaves the list as it was, and so does a success past the last leaf.
 fn lists() {
     // Each fault stands after a good leaf.
-    into(b"CC)", b"CC", 8);
-    into(b"CC", b"C", 8);
-    into(b"CC", b"CC", 5);
+    lists_of(8, b"CC):CC;CC:C");
+    lists_of(5, b"CC:CC");
     // Exactly enough, and more.
-    into(b"CC", b"CC", 6);
-    into(b"CC", b"CC", 8);
+    lists_of(6, b"CC:CC");
+    lists_of(8, b"CC:CC");
     // No leaf needs no list.
-    into(b"", b"", 0);
+    lists_of(0, b":");
     // String, payload and list at fault; then the last two; then the list alone.
-    into(b"b)", b"\x02", 2);
-    into(b"b", b"\x02", 2);
-    into(b"b", b"\x01", 2);
+    lists_of(2, b"b):\x02;b:\x02;b:\x01");
 }
 
 // 64 octets of string, 1,300 of payload, and lists of exactly enough numbers and one fewer.
 fn long() {
-    let string = [b'C'; 65];
-    let zeros = [0u8; 1301];
-    show::text(b"type of 64 C, 64 zeros, list of 192");
-    far(&string[..64], &zeros[..64], 192);
-    show::text(b"type of 64 C, 64 zeros, list of 191");
-    far(&string[..64], &zeros[..64], 191);
-    show::text(b"type of 65 C, 65 zeros, list of 195");
-    far(&string[..65], &zeros[..65], 195);
-    show::text(b"type D, 1300 zeros, list of 3");
-    far(b"D", &zeros[..1300], 3);
-    show::text(b"type D, 1301 zeros, list of 3");
-    far(b"D", &zeros[..1301], 3);
-    show::text(b"type A(C), 1300 zeros, list of 3900");
-    far(b"A(C)", &zeros[..1300], 3900);
-    show::text(b"type A(C), 1300 zeros, list of 3899");
-    far(b"A(C)", &zeros[..1300], 3899);
+    long_string(64, 64, 192);
+    long_string(64, 64, 191);
+    long_string(65, 65, 195);
+    long_payload(b"D", 1300, 3);
+    long_payload(b"D", 1301, 3);
+    long_payload(b"A(C)", 1300, 3900);
+    long_payload(b"A(C)", 1300, 3899);
     // All three at fault, and the last two.
-    show::text(b"type of 65 C, 1301 zeros, list of 0");
-    far(&string[..65], &zeros[..1301], 0);
-    show::text(b"type D, 1301 zeros, list of 0");
-    far(b"D", &zeros[..1301], 0);
+    long_string(65, 1301, 0);
+    long_payload(b"D", 1301, 0);
 }
 
-fn line(types: &[u8], payload: &[u8]) {
+// Cases of a type string, a colon and a payload.
+fn lines(text: &[u8]) {
+    cases::run(Kind::Type, text);
+}
+
+fn lists_of(room: usize, text: &[u8]) {
+    cases::run(Kind::TypeInto(room), text);
+}
+
+pub fn line(types: &[u8], payload: &[u8]) {
     let mut list = [0u32; 96];
     case(types, payload);
     let answer = read_typed(types, payload, &mut list);
@@ -306,11 +299,11 @@ fn line(types: &[u8], payload: &[u8]) {
     if let Answer::Leaves(count) = answer {
         leaves(count, &list);
     }
-    show::text(b"\n");
+    show::letter(b'\n');
 }
 
 // A reading into the first of eight sevens, and what the eight are then.
-fn into(types: &[u8], payload: &[u8], room: usize) {
+pub fn into(types: &[u8], payload: &[u8], room: usize) {
     let mut list = [7u32; 8];
     case(types, payload);
     show::text(b", first ");
@@ -319,19 +312,39 @@ fn into(types: &[u8], payload: &[u8], room: usize) {
     tell(within(types, payload, &mut list, room));
     show::text(b", now");
     numbers(&list);
-    show::text(b"\n");
+    show::letter(b'\n');
+}
+
+// So many C, and zeros.
+fn long_string(letters: usize, zeros: usize, room: usize) {
+    let string = [b'C'; 65];
+    show::text(b"type of ");
+    show::number(letters);
+    show::text(b" C");
+    far(show::front(&string, letters), zeros, room);
+}
+
+fn long_payload(types: &[u8], zeros: usize, room: usize) {
+    show::text(b"type ");
+    show::text(types);
+    far(types, zeros, room);
 }
 
 // The answer and the last leaf.
-fn far(types: &[u8], payload: &[u8], room: usize) {
+fn far(types: &[u8], zeros: usize, room: usize) {
+    let payload = [0u8; 1301];
     let mut list = [0u32; 3900];
-    let answer = within(types, payload, &mut list, room);
+    show::text(b", ");
+    show::number(zeros);
+    show::text(b" zeros, list of ");
+    show::number(room);
+    let answer = within(types, show::front(&payload, zeros), &mut list, room);
     tell(answer);
     if let Answer::Leaves(count) = answer {
         show::text(b", last");
         last(count, &list);
     }
-    show::text(b"\n");
+    show::letter(b'\n');
 }
 
 // A reading into the first `room` numbers of a list that has them.
@@ -345,7 +358,7 @@ fn within(types: &[u8], payload: &[u8], list: &mut [u32], room: usize) -> Answer
 fn case(types: &[u8], payload: &[u8]) {
     show::text(b"type ");
     show::text(types);
-    show::text(b",");
+    show::letter(b',');
     show::octets(payload);
 }
 
@@ -384,9 +397,9 @@ fn leaves(count: usize, list: &[u32]) {
 
 fn mark(first: bool) {
     if first {
-        show::text(b":");
+        show::letter(b':');
     } else {
-        show::text(b",");
+        show::letter(b',');
     }
 }
 
@@ -408,7 +421,7 @@ fn leaf(list: &[u32]) {
     if list.len() < 3 {
         return;
     }
-    show::text(b" ");
+    show::letter(b' ');
     letter(list[0]);
     numbers(&list[1..3]);
 }
@@ -417,8 +430,7 @@ fn letter(code: u32) {
     if 255 < code {
         return;
     }
-    let octet = [code as u8];
-    show::text(&octet);
+    show::letter(code as u8);
 }
 
 // Each number, after a space.
@@ -431,6 +443,6 @@ fn numbers(list: &[u32]) {
 }
 
 fn spaced(n: u32) {
-    show::text(b" ");
+    show::letter(b' ');
     show::number(n as usize);
 }

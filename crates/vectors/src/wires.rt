@@ -1,4 +1,6 @@
 // Octets of the wire, read in one or several calls; what a call leaves unread is offered again. Fates are 01's (Octets on the wire).
+use crate::cases;
+use crate::cases::Kind;
 use crate::frames::framed;
 use crate::show;
 use hdlc::Fate;
@@ -8,69 +10,76 @@ use hdlc::read_frame;
 
 pub fn run() {
     // A frame, one without its first flag, and two that share a flag.
-    one(b"\x7e\x81\x00\x53\x9a\x7e");
-    one(b"\x81\x00\x53\x9a\x7e");
-    one(b"\x7e\x81\x00\x53\x9a\x7e\x81\x00\x53\x9a\x7e");
+    lines(b"7e 81 00 53 9a 7e; 81 00 53 9a 7e; 7e 81 00 53 9a 7e 81 00 53 9a 7e");
     // 01, Bodies and their replies: fate 6, fate 5, and none.
-    one(b"\x7e\x41\x00\xf9\x50\x7e");
-    one(b"\x7e\x7d\x7e");
-    one(b"\x7e\x7e\x7e");
-    // Too short: one octet, and three.
-    one(b"\x7e\x81\x7e");
-    one(b"\x7e\x81\x00\x53\x7e");
-    // A wrong check, and the right one with its high octet first.
-    one(b"\x7e\x81\x00\x53\x9b\x7e");
-    one(b"\x7e\x81\x00\x9a\x53\x7e");
+    lines(b"7e 41 00 f9 50 7e; 7e 7d 7e; 7e 7e 7e");
+    // Too short: one octet, and three. A wrong check, and the right one with its high octet first.
+    lines(b"7e 81 7e; 7e 81 00 53 7e; 7e 81 00 53 9b 7e; 7e 81 00 9a 53 7e");
     // Bare 11, 13 and F8 are skipped, also between an escape and its octet.
-    one(b"\x11\x7e\x13\x81\xf8\x00\x53\x11\x9a\x13\x7e");
-    one(b"\x7e\x81\x7d\x11\x13\xf8\x5e\xaa\x00\x7e");
-    // An escaped escape octet is an octet like others: 7D 7D stands for 5D.
-    one(b"\x7e\x81\x7d\x7d\x33\x7d\x33\x7e");
-    // An escape does not survive a flag.
-    one(b"\x7e\x7d\x7e\x81\x00\x53\x9a\x7e");
+    lines(b"11 7e 13 81 f8 00 53 11 9a 13 7e; 7e 81 7d 11 13 f8 5e aa 00 7e");
+    // An escaped escape octet is an octet like others: 7D 7D stands for 5D. An escape does not survive a flag.
+    lines(b"7e 81 7d 7d 33 7d 33 7e; 7e 7d 7e 81 00 53 9a 7e");
     // Noise, and two frames joined by a lost flag; the next frame is read.
-    one(b"\x01\x02\x7d\x03\x04\x05\x7e\x81\x00\x53\x9a\x7e");
-    one(b"\x7e\x81\x00\x53\x9a\x81\x00\x53\x9a\x7e\x81\x00\x53\x9a\x7e");
+    lines(
+        b"01 02 7d 03 04 05 7e 81 00 53 9a 7e;
+          7e 81 00 53 9a 81 00 53 9a 7e 81 00 53 9a 7e",
+    );
     // Cut in an escape, and before the last flag.
     two(b"\x7e\x81\x7d", b"\x5e\xaa\x00\x7e");
     two(b"\x7e\x81\x00\x53\x9a", b"\x7e");
 }
 
+fn lines(text: &[u8]) {
+    cases::run(Kind::Wire, text);
+}
+
 // 1,302 octets are gathered, and no more (01, Octets on the wire).
 pub fn run_long() {
     let mut assembly = [0u8; 1302];
-    let octets = [0x81u8; 1303];
-    let mut frame = [0u8; 2606];
-    let count = framed(&octets[..1300], &mut frame);
-    show::text(b"1300 octets framed:");
-    feed(Reader::fresh(), show::front(&frame, count), &mut assembly);
-    show::text(b"\n1302 octets and a flag:");
-    let full = feed(Reader::fresh(), &octets[..1302], &mut assembly);
-    feed(full, b"\x7e", &mut assembly);
-    show::text(b"\n1302 octets, an escape and a flag:");
-    feed(full, b"\x7d\x7e", &mut assembly);
-    show::text(b"\n1303 octets and a flag:");
-    let over = feed(Reader::fresh(), &octets[..1303], &mut assembly);
-    feed(over, b"\x7e", &mut assembly);
-    show::text(b"\n1303 octets, an escape and a flag:");
-    feed(over, b"\x7d\x7e", &mut assembly);
+    longest(&mut assembly);
+    gathered(1302, &mut assembly);
+    let over = gathered(1303, &mut assembly);
     // The discard is not forgotten at the end of a call, and ends at the flag.
-    show::text(b"\n1303 octets, and two frames:");
+    show::text(b"1303 octets, and two frames:");
     feed(
         over,
         b"\x81\x00\x53\x9a\x7e\x81\x00\x53\x9a\x7e",
         &mut assembly,
     );
-    show::text(b"\n");
+    show::letter(b'\n');
 }
 
-fn one(wire: &[u8]) {
+fn longest(assembly: &mut [u8]) {
+    let body = [0x81u8; 1300];
+    let mut frame = [0u8; 2606];
+    let count = framed(&body, &mut frame);
+    show::text(b"1300 octets framed:");
+    feed(Reader::fresh(), show::front(&frame, count), assembly);
+    show::letter(b'\n');
+}
+
+// So many octets, and then a flag, or an escape and a flag; the reader after the octets.
+fn gathered(count: usize, assembly: &mut [u8]) -> Reader {
+    let octets = [0x81u8; 1303];
+    show::number(count);
+    show::text(b" octets and a flag:");
+    let reader = feed(Reader::fresh(), show::front(&octets, count), assembly);
+    feed(reader, b"\x7e", assembly);
+    show::letter(b'\n');
+    show::number(count);
+    show::text(b" octets, an escape and a flag:");
+    feed(reader, b"\x7d\x7e", assembly);
+    show::letter(b'\n');
+    reader
+}
+
+pub fn one(wire: &[u8]) {
     let mut assembly = [0u8; 1302];
     show::text(b"wire");
     show::octets(wire);
-    show::text(b":");
+    show::letter(b':');
     feed(Reader::fresh(), wire, &mut assembly);
-    show::text(b"\n");
+    show::letter(b'\n');
 }
 
 fn two(first: &[u8], second: &[u8]) {
@@ -79,10 +88,10 @@ fn two(first: &[u8], second: &[u8]) {
     show::octets(first);
     show::text(b" |");
     show::octets(second);
-    show::text(b":");
+    show::letter(b':');
     let reader = feed(Reader::fresh(), first, &mut assembly);
     feed(reader, second, &mut assembly);
-    show::text(b"\n");
+    show::letter(b'\n');
 }
 
 // Offers a chunk until it is used up, and says what each call gave.

@@ -6,10 +6,10 @@ use Rattle.vectors.proofs.boxes.bodies.Statement.{statement}
 use Rattle.vectors.proofs.boxes.bodies.Tie as tie
 
 abbrev Inv-loop : tie.InvT-loop
-Inv-loop text device₀ rest₀ t6 t7 device rest = length rest ≤ length text
+Inv-loop text device₀ rest₀ t6 device rest = length rest ≤ length text
 
 abbrev μ-loop : tie.MeasureT-loop
-μ-loop text device₀ rest₀ t6 t7 device rest = length rest
+μ-loop text device₀ rest₀ t6 device rest = length rest
 
 pub bodies-spec : {M : Type 1} → statement M
 bodies-spec =
@@ -22,7 +22,6 @@ bodies-spec =
     (λ c κs. search needs)
     (λ c κs. search needs)
     (λ c. search needs)
-    (λ c κs. search needs)
     (λ c. search needs)
     (λ c. search needs)
     (λ c κs. search needs)

@@ -6,10 +6,10 @@ use Rattle.vectors.proofs.boxes.lines.Statement.{statement}
 use Rattle.vectors.proofs.boxes.lines.Tie as tie
 
 abbrev Inv-loop : tie.InvT-loop
-Inv-loop head fresh text rest₀ rest = length rest ≤ length text
+Inv-loop text rest₀ rest = length rest ≤ length text
 
 abbrev μ-loop : tie.MeasureT-loop
-μ-loop head fresh text rest₀ rest = length rest
+μ-loop text rest₀ rest = length rest
 
 pub lines-spec : {M : Type 1} → statement M
 lines-spec =
@@ -18,7 +18,6 @@ lines-spec =
     Inv-loop
     μ-loop
     (λ c. search needs)
-    (λ c κs. search needs)
     (λ c κs. search needs)
     (λ c κs. search needs)
     (λ c κs. search needs)

@@ -2,8 +2,8 @@
 use mathlib.Core.Path.{_≡_}
 use borrow.Author.Needs.{needs}
 use lib.ListN.{length}
-use Rattle.vectors.proofs.boxes.read_hex.Statement.{statement}
-use Rattle.vectors.proofs.boxes.read_hex.Tie as tie
+use Rattle.vectors.proofs.hex.read_hex.Statement.{statement}
+use Rattle.vectors.proofs.hex.read_hex.Tie as tie
 
 abbrev Inv-loop : tie.InvT-loop
 Inv-loop text out₀ rest₀ count₀ out rest count = length out ≡ length out₀

@@ -1,0 +1,31 @@
+-- The measure is how much of the text is left. Assumes nothing.
+use Prim.Native.Nat.{_≤_}
+use borrow.Author.Needs.{needs}
+use lib.ListN.{length}
+use Rattle.vectors.proofs.cases.run.Statement.{statement}
+use Rattle.vectors.proofs.cases.run.Tie as tie
+
+abbrev Inv-loop : tie.InvT-loop
+Inv-loop kind text rest₀ rest = length rest ≤ length text
+
+abbrev μ-loop : tie.MeasureT-loop
+μ-loop kind text rest₀ rest = length rest
+
+pub run-spec : {M : Type 1} → statement M
+run-spec =
+    tie.close
+    (tie.spec
+    Inv-loop
+    μ-loop
+    (λ c. search needs)
+    (λ c κs. search needs)
+    (λ c κs. search needs)
+    (λ c κs. search needs)
+    (λ c. search needs)
+    (λ c. search needs)
+    (λ c. search needs)
+    (λ c. search needs)
+    (λ c. search needs)
+    (λ c. search needs)
+    (λ c. search needs)
+    (λ c. search needs))
