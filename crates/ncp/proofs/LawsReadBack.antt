@@ -6,7 +6,7 @@ use mathlib.Core.List.{List, [], _∷_, append-assoc}
 use Prim.Native.Nat.{ℕ, _/_, _≤_}
 use native.Mathlib.Omega.{arith}
 use borrow.Author.Tests.{eq-eqb}
-use lib.ListN.{length, take, replicate, length-replicate}
+use lib.ListN.{length, replicate, length-replicate}
 use lib.Seq.{take-append-seam}
 use Rattle.octets.specs.Octets.{Octets}
 use Rattle.hdlc.specs.declared.reader.Fate.{Fate}
@@ -23,24 +23,24 @@ use Rattle.hdlc.proofs.CheckedBodies.{checked-body}
 use Rattle.hdlc.proofs.RoundTrip.{round-trip}
 use Rattle.command.specs.Reply.{headerOf}
 use Rattle.engine.proofs.ReplyBounds.{Bounded}
-use Rattle.ncp.specs.Turns.{readBack, bodyBack}
+use Rattle.ncp.specs.Turns.{readBack, bodyBack, GotBack}
 
 cleared-room : mostGathered ≤ length {A = ℕ} (replicate mostGathered 0)
 cleared-room = omega (arith, length-replicate {A = ℕ} mostGathered 0)
 
 -- what the reader gave, by the cases that the code tells apart
-module _ (xs : List ℕ) {f : Fate} {read : ℕ} {r : Reader} {a : List ℕ} (is : outcome f read r a ≡ readBack xs) where
+module _ (xs : List ℕ) {f : Fate} {read : ℕ} {r : Reader} {a : List ℕ} (is : outcome f read r a ≡ readBack xs) (room : mostGathered ≤ length a) (o : Octets xs) where
   body : bodyIn f a ≡ bodyBack xs
   unfolding bodyBack
-  body = ap (λ o. bodyIn (o .fate) (o .state .assembly)) is
+  body = ap (λ z. bodyIn (z .fate) (z .state .assembly)) is
 
-  pub back-checked : (n : ℕ) → f ≡ Checked n → (n ≤ 1300) × (take n a ≡ bodyBack xs)
+  pub back-checked : (n : ℕ) → f ≡ Checked n → GotBack xs a n
   back-checked n e =
-      let fits = checked-body _ _ xs n fresh-rules cleared-room (sym (ap (λ o. o .fate) is) ∙ e) in
-      (fits .1, ap (λ g. bodyIn g a) (sym e) ∙ body)
+      let short = checked-body _ _ xs n fresh-rules cleared-room (sym (ap (λ z. z .fate) is) ∙ e) in
+      record { fits = omega (arith, short .1); body = ap (λ g. bodyIn g a) (sym e) ∙ body; octets = o }
 
-  pub back-none : OneOf (0 ∷ 2 ∷ 3 ∷ 4 ∷ 5 ∷ 6 ∷ []) (tagOf fate-type f) → [] ≡ bodyBack xs
-  back-none o = sym (tag-unchecked f a o .1) ∙ body
+  pub back-none : OneOf (0 ∷ 2 ∷ 3 ∷ 4 ∷ 5 ∷ 6 ∷ []) (tagOf fate-type f) → GotBack xs a 0
+  back-none other = record { fits = omega arith; body = sym (tag-unchecked f a other .1) ∙ body; octets = o }
 
 -- the frame of a reply with the top bits 10 is read back as the reply
 module _ (reply : List ℕ) (size : Bounded reply) (top : headerOf reply / 64 ≡ 2) where

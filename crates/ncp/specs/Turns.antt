@@ -2,9 +2,10 @@
 use mathlib.Core.Bool.{cond}
 use mathlib.Core.List.{List, []}
 use mathlib.Core.Path.{_≡_}
-use Prim.Native.Nat.{ℕ}
+use Prim.Native.Nat.{ℕ, _≤_}
 use lib.Dec.{eqb}
-use lib.ListN.{replicate}
+use lib.ListN.{length, take, replicate}
+use Rattle.octets.specs.Octets.{Octets}
 use Rattle.octets.specs.Writing.{Wrote}
 use Rattle.hdlc.specs.declared.reader.Reader.{Reader}
 use Rattle.hdlc.specs.Reading.{mostGathered, fresh, held, Outcome, run}
@@ -49,3 +50,9 @@ readBack frame = run (held fresh (replicate mostGathered 0)) frame
 -- its body, where it is checked
 unfoldable pub bodyBack : List ℕ → List ℕ
 bodyBack frame = bodyIn (readBack frame .fate) (readBack frame .state .assembly)
+
+-- it stands first in the space that the frame was read into. That the frame is of octets, as any `&[u8]` is, is what the round trip asks for
+pub record GotBack (frame after : List ℕ) (len : ℕ) : Type 0 where
+  pub fits : len ≤ length after
+  pub body : take len after ≡ bodyBack frame
+  pub octets : Octets frame

@@ -5,13 +5,13 @@ use hdlc::Fate;
 use hdlc::Reader;
 use hdlc::read_frame;
 use serial::receive;
-ghost use Rattle.octets.specs.Octets.{Octets};
-ghost use Rattle.octets.specs.Writing.{Wrote};
-ghost use Rattle.ncp.specs.Lines.{lineOf};
-ghost use Rattle.ncp.specs.Turns.{bodyBack, received, Took};
+ghost use mathlib.Core.Path.{_≡_};
+ghost use lib.ListN.{replicate};
+ghost use Rattle.hdlc.specs.Reading.{mostGathered};
+ghost use Rattle.ncp.specs.Turns.{GotBack, received, Took};
 
-// Room for the line of any body.
-pub const MOST_LINE: usize = 3 * Reader::MOST_BODY;
+// The longest line: three octets for each of a reply's 61.
+pub const MOST_LINE: usize = 3 * Device::MOST_REPLY;
 
 pub struct Turn {
     // How many octets of the input were read.
@@ -22,17 +22,16 @@ pub struct Turn {
     pub len: usize,
 }
 
-// A reply comes framed, and its line shows the body: what a fresh reader reads from the frame. The second promise, which any `&[u8]` keeps,
-// is what the round trip asks for.
-fn frame_line(frame: &[u8], line: &mut [u8; MOST_LINE]) -> usize
-    ensures line { λ next. ⌜ Wrote (now (line .entry)) (now (line .exit)) 0 next (lineOf (bodyBack (now (frame .entry)))) ⌝ }
-    ensures octets { λ next. ⌜ Octets (now (frame .entry)) ⌝ }
+// A reply comes framed, and its line shows the body: what a fresh reader reads from the frame into a cleared buffer. Returns how many octets
+// the body has, from the front of the buffer.
+fn read_back(frame: &[u8], assembly: &mut [u8; Reader::MOST_GATHERED]) -> usize
+    requires { ⌜ now assembly ≡ replicate mostGathered 0 ⌝ }
+    ensures { λ len. ⌜ GotBack (now (frame .entry)) (now (assembly .exit)) len ⌝ }
 {
-    let mut assembly = [0u8; Reader::MOST_GATHERED];
-    let reading = read_frame(Reader::fresh(), frame, &mut assembly);
+    let reading = read_frame(Reader::fresh(), frame, assembly);
     let fate = reading.fate;
     if let Fate::Checked(len) = fate {
-        return write_line(&assembly[..len], line);
+        return len;
     }
     0
 }
@@ -54,10 +53,12 @@ pub fn receive_line(
     let written = received.written;
     let device = received.device;
     let next = received.reader;
+    let mut space = [0u8; Reader::MOST_GATHERED];
+    let len = read_back(&output[..written], &mut space);
     Turn {
         read: received.read,
         device,
         reader: next,
-        len: frame_line(&output[..written], line),
+        len: write_line(&space[..len], line),
     }
 }
