@@ -17,54 +17,56 @@ use Rattle.serial.proofs.call.read_and_reply.Statement.{statement}
 use Rattle.serial.proofs.call.read_and_reply.Tie as tie
 
 module _ (c : tie.After-known-told) where
-  count : ℕ
+  abbrev call : tie.After-read-frame
+  call = c .before .before .before .before .before .before
+
+  abbrev start : tie.Start
+  start = call .before .before .before .before .before
+
+  abbrev count : ℕ
   count = c .before .fate .given .0 .0
 
-  assembly : List ℕ
-  assembly = c .before .before .before .before .before .before .read-frame .last .1 .1 .0
+  abbrev assembly : List ℕ
+  assembly = call .read-frame .last .1 .1 .0
 
   -- what was read, with the fate that the pattern found
-  reads : let s = c .before .before .before .before .before .before .before .before .before .before .before in
-      let r = c .before .before .before .before .before .before .read-frame in
-      outcome (Checked count) (r .result .read) (r .result .reader) assembly ≡ run (held (s .args .reader) (s .args .assembly .now)) (s .args .input .now)
-  unfolding count assembly
+  reads : let r = call .read-frame .result in
+      outcome (Checked count) (r .read) (r .reader) assembly ≡ run (held (start .args .reader) (start .args .assembly .now)) (start .args .input .now)
   reads =
-      let r = c .before .before .before .before .before .before .read-frame in
-      ap (λ f. outcome f (r .result .read) (r .result .reader) (r .last .1 .1 .0)) (sym (c .before .fate .given .1)) ∙ r .ensures
+      let r = call .read-frame .result in
+      ap (λ f. outcome f (r .read) (r .reader) assembly) (sym (c .before .fate .given .1)) ∙ call .read-frame .ensures
 
   fits : (2 ≤ count) × (count ≤ 1300) × (getD assembly 0 0 / 64 ≡ 2)
   fits =
-      let s = c .before .before .before .before .before .before .before .before .before .before .before in
-      let t = checked-body _ (s .args .assembly .now) (s .args .input .now) count (rules-told _ (s .pre .0 .1)) (s .pre .1 .0) (ap (λ o. o .fate) (sym reads)) in
+      let a = start .args .assembly .now in
+      let t = checked-body _ a (start .args .input .now) count (rules-told _ (start .pre .0 .1)) (start .pre .1 .0) (ap (λ o. o .fate) (sym reads)) in
       (t .0, t .1, ap (λ o. getD (o .state .assembly) 0 0 / 64) reads ∙ t .2)
 
   room : count ≤ length assembly
-  unfolding assembly
-  room =
-      let f = fits in
-      omega (arith, c .before .before .before .before .before .before .read-frame .kept, c .before .before .before .before .before .before .before .before .before .before .before .pre .1)
+  room = let f = fits in omega (arith, call .read-frame .kept, start .pre .1)
 
 pub read-and-reply-spec : {M : Type 1} → statement M
-unfolding count assembly answered
+unfolding answered
 read-and-reply-spec =
     tie.close
     (tie.spec
     (λ c κs. search needs)
     (λ c. search needs)
-    (λ c. room c)
+    room
     (λ c. sym (length-take-le _ _ (room (c .before))))
     (λ c κs. let k = c .before .before in let f = fits k in let size = length-take-le (count k) (assembly k) (room k) in
-    (search needs, ((omega (arith, f .0, size), omega (arith, f .1, size), ap (λ b. b / 64) (getD-take (count k) (assembly k) 0 0 (omega arith)) ∙ f .2), search needs)))
+    let top = ap (λ b. b / 64) (getD-take (count k) (assembly k) 0 0 (omega arith)) ∙ f .2 in
+    (search needs, ((omega (arith, f .0, size), omega (arith, f .1, size), top), search needs)))
     (λ c. search needs)
     (λ c. search needs)
-    (λ c. let k = c .before .before .before .before .before .before in let w = c .before .before .before .reply in
+    (λ c. let k = c .before .before .before .before .before .before in let r = call k .read-frame .result in let w = c .before .before .before .reply in
     rw (← reads k)
     (λ i. record {
       answer = Read (Checked (count k));
-      read = k .before .before .before .before .before .before .read-frame .result .read;
+      read = r .read;
       written = w .ensures .1 i .count;
       device = w .ensures .0 i;
-      reader = k .before .before .before .before .before .before .read-frame .result .reader;
+      reader = r .reader;
       assembly = assembly k;
       output = w .ensures .1 i .output;
     }))
