@@ -1,6 +1,5 @@
 // The receiving call (01, Octets on the wire).
 use device::Device;
-use engine::Answered;
 use engine::answer;
 use hdlc::Fate;
 use hdlc::Reader;
@@ -49,6 +48,12 @@ fn breaks_rules(device: Device, reader: Reader) -> bool
     true
 }
 
+// The box after a body, and how many octets the reply's frame has.
+struct Replied {
+    device: Device,
+    written: usize,
+}
+
 // A call that writes no reply. A refused one reads nothing either.
 fn unanswered(answer: Answer, read: usize, device: Device, reader: Reader) -> Received
     ensures { λ r. ⌜ r ≡ record { answer = answer; read = read; written = 0; device = device; reader = reader } ⌝ }
@@ -62,21 +67,21 @@ fn unanswered(answer: Answer, read: usize, device: Device, reader: Reader) -> Re
     }
 }
 
-// The engine's answer to a checked body; the reply's frame goes to the front of the output, and its length is returned.
-fn reply(device: Device, body: &[u8], output: &mut [u8]) -> Answered
+// The engine's answer to a checked body. The reply's frame goes to the front of the output.
+fn reply(device: Device, body: &[u8], output: &mut [u8]) -> Replied
     requires rules { ⌜ rules device ≡ true ⌝ }
     requires body { ⌜ (2 ≤ length (now body)) × (length (now body) ≤ 1300) × (headerOf (now body) / 64 ≡ 2) ⌝ }
     requires room { ⌜ leastOutput ≤ length (now output) ⌝ }
     ensures device { λ r. ⌜ r .device ≡ engine device (now (body .entry)) .device ⌝ }
-    ensures output { λ r. ⌜ written (r .len) (now (output .exit)) ≡ writing (engine device (now (body .entry)) .reply) (now (output .entry)) ⌝ }
+    ensures output { λ r. ⌜ written (r .written) (now (output .exit)) ≡ writing (engine device (now (body .entry)) .reply) (now (output .entry)) ⌝ }
 {
     let mut space = [0u8; Device::MOST_REPLY];
     let answered = answer(device, body, &mut space);
     let len = answered.len;
     let device = answered.device;
-    Answered {
+    Replied {
         device,
-        len: write_frame(&space[..len], output),
+        written: write_frame(&space[..len], output),
     }
 }
 
@@ -103,7 +108,7 @@ fn read_and_reply(
         return Received {
             answer: Answer::Read(fate),
             read: reading.read,
-            written: replied.len,
+            written: replied.written,
             device: changed,
             reader: next,
         };
