@@ -39,6 +39,12 @@ pub struct Received {
     pub reader: Reader,
 }
 
+// The box after a body, and how many octets the reply's frame has.
+struct Replied {
+    device: Device,
+    written: usize,
+}
+
 fn breaks_rules(device: Device, reader: Reader) -> bool
     ensures { λ r. ⌜ r ≡ breaksRules device reader ⌝ }
 {
@@ -46,12 +52,6 @@ fn breaks_rules(device: Device, reader: Reader) -> bool
         return !reader.keeps_rules();
     }
     true
-}
-
-// The box after a body, and how many octets the reply's frame has.
-struct Replied {
-    device: Device,
-    written: usize,
 }
 
 // A call that writes no reply. A refused one reads nothing either.
