@@ -1,6 +1,6 @@
 -- Laws of one turn, by the cases of the receiving call: what was written is read back as the engine's reply, and fits. Assumes nothing.
 use mathlib.Core.Bool.{false}
-use mathlib.Core.Path.{_≡_, refl, ap}
+use mathlib.Core.Path.{_≡_, refl, ap, _∙_}
 use mathlib.Core.List.{List}
 use Prim.Native.Nat.{ℕ, _≤_}
 use native.Mathlib.Omega.{arith}
@@ -22,11 +22,12 @@ use Rattle.device.specs.declared.state.Device.{Device}
 use Rattle.engine.specs.Engine.{engine}
 use Rattle.engine.proofs.ReplyBounds.{reply-bounds}
 use Rattle.engine.proofs.ReplyHeader.{reply-top}
-use Rattle.serial.specs.Receiving.{numberOf, leastOutput, Result, breaksRules, answered, receive}
+use Rattle.serial.specs.Receiving.{numberOf, leastOutput, Result, breaksRules, unrefused, receive}
 use Rattle.serial.proofs.LawsReceiving.{rules-kept}
+use Rattle.ncp.specs.declared.serve.Session.{Session}
 use Rattle.ncp.specs.declared.turn.Turn.{Turn}
 use Rattle.ncp.specs.Lines.{lineOf}
-use Rattle.ncp.specs.Turns.{received, replyBody, Took, bodyBack}
+use Rattle.ncp.specs.Turns.{received, replyBody, Took, GoesOn, bodyBack}
 use Rattle.ncp.proofs.LawsLines.{line-length}
 use Rattle.ncp.proofs.LawsReadBack.{frame-back}
 
@@ -51,8 +52,8 @@ silent d input z r w e =
 
 module _ (d : Device) (r : Reader) (input a out : List ℕ) where
   -- one that reads: fate 1, and any other
-  reads-turned : breaksRules d r ≡ false → mostGathered ≤ length a → Turned d input (answered d (run (held r a) input) out)
-  unfolding answered replyBody writing
+  reads-turned : breaksRules d r ≡ false → mostGathered ≤ length a → Turned d input (unrefused d (run (held r a) input) out)
+  unfolding unrefused replyBody writing
   reads-turned kept room =
       let o = run (held r a) input in
       let body = bodyIn (o .fate) (o .state .assembly) in
@@ -80,6 +81,11 @@ module _ (d : Device) (r : Reader) (input a out : List ℕ) where
       (λ room.
       chosen (Turned d input) (ltb (length out) leastOutput) (λ _. silent d input _ (omega arith) refl refl)
       (λ _. reads-turned kept (ltb-false _ _ room))))
+
+-- a session that has a turn's box and reader goes on with what the receiving call left
+pub goes-on : {d : Device} {r : Result} {t : Turn} {a before after : List ℕ} {s : Session} → Took d r t a before after
+    → s .device ≡ t .device → s .reader ≡ t .reader → GoesOn r s a
+goes-on w d r = record { device = d ∙ w .device; reader = r ∙ w .reader; assembly = w .assembly }
 
 -- a turn reads no more than its input, and its line fits where there is room for three octets for each of a reply's 61
 module _ (d : Device) (r : Reader) (input a : List ℕ) {a′ before after : List ℕ} {t : Turn} (w : Took d (received d r input a) t a′ before after) where

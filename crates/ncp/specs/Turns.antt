@@ -15,6 +15,7 @@ use Rattle.engine.specs.Engine.{engine}
 use Rattle.serial.specs.declared.call.Answer.{Answer}
 use Rattle.serial.specs.declared.call.Answer.the-variants.{Read, BadState, SmallAssembly, SmallOutput}
 use Rattle.serial.specs.Receiving.{numberOf, leastOutput, Result, receive}
+use Rattle.ncp.specs.declared.serve.Session.{Session}
 use Rattle.ncp.specs.declared.turn.Turn.{Turn}
 use Rattle.ncp.specs.Lines.{lineOf}
 
@@ -40,6 +41,12 @@ pub record Took (d : Device) (r : Result) (t : Turn) (a before after : List ℕ)
   pub reader : t .reader ≡ r .reader
   pub assembly : a ≡ r .assembly
   pub line : Wrote before after 0 (t .len) (lineOf (replyBody d r))
+
+-- what the program goes on with after a call: the box, the reader and the assembly buffer as the receiving call left them
+pub record GoesOn (r : Result) (s : Session) (a : List ℕ) : Type 0 where
+  pub device : s .device ≡ r .device
+  pub reader : s .reader ≡ r .reader
+  pub assembly : a ≡ r .assembly
 
 -- ---- a reply is known by its frame
 

@@ -7,6 +7,7 @@ use libc::STDIN_FILENO;
 use libc::STDOUT_FILENO;
 ghost use Prim.Native.Nat.{_≤_};
 ghost use lib.ListN.{length};
+ghost use Rattle.ncp.specs.Turns.{received, GoesOn};
 
 // The box and its reader between two calls.
 struct Session {
@@ -19,7 +20,8 @@ struct Session {
 
 // One call, and its line.
 fn serve_call(session: Session, input: &[u8], assembly: &mut [u8]) -> Session
-    ensures { λ s. ⌜ s .read ≤ length (now (input .entry)) ⌝ }
+    ensures read { λ s. ⌜ s .read ≤ length (now (input .entry)) ⌝ }
+    ensures state { λ s. ⌜ GoesOn (received (session .device) (session .reader) (now (input .entry)) (now (assembly .entry))) s (now (assembly .exit)) ⌝ }
 {
     let mut line = [0u8; MOST_LINE];
     let turn = receive_line(session.device, session.reader, input, assembly, &mut line);

@@ -23,7 +23,7 @@ use Rattle.device.proofs.SetupKeepsRules.{setup-keeps}
 use Rattle.engine.specs.Merged.{repliesTo}
 use Rattle.engine.proofs.LawsRepliesInOrder.{one-each}
 use Rattle.serial.specs.Receiving.{numberOf, leastOutput, Result}
-use Rattle.serial.specs.Histories.{Setup, deviceFrom, Call, lentFrom, History, start, endOf, gives, replyIn, repliesIn, readIn, readBy, laid, checkedIn, bodies, Told, tells, meant, openAfter, deviceIn}
+use Rattle.serial.specs.Histories.{Setup, deviceFrom, ReceivingCall, lentFrom, History, start, endOf, gives, replyIn, repliesIn, readIn, readBy, laid, checkedIn, bodies, Report, reported, callMeans, openAfter, deviceIn}
 use Rattle.serial.proofs.LawsHistories.{Stands, Step, step, Runs, runs}
 
 pub record Faithful (s : Setup) (h : History) : Type 0 where
@@ -31,9 +31,9 @@ pub record Faithful (s : Setup) (h : History) : Type 0 where
   pub one-each : length (repliesIn s h) ≡ length (bodies h)
   pub read : readIn s h ≡ laid h
   pub device : endOf s h .device ≡ deviceIn s h
-  pub more : (c : Call) → tells (gives (endOf s h) c) ≡ meant (h .assembly) (openAfter h) (deviceIn s h) c
-  pub at-most-one : (c : Call) → length (checkedIn (openAfter h) (readBy (h .assembly) (openAfter h) c)) ≤ 1
-  pub never-11 : (c : Call) → numberOf (gives (endOf s h) c .answer) ≢ 11
+  pub more : (c : ReceivingCall) → reported (gives (endOf s h) c) ≡ callMeans (h .assembly) (openAfter h) (deviceIn s h) c
+  pub at-most-one : (c : ReceivingCall) → length (checkedIn (openAfter h) (readBy (h .assembly) (openAfter h) c)) ≤ 1
+  pub never-11 : (c : ReceivingCall) → numberOf (gives (endOf s h) c .answer) ≢ 11
 
 -- ---- the start
 
@@ -51,7 +51,7 @@ starts s a =
 
 few-replies : (r : Result) → length (replyIn r) ≤ 1
 unfolding replyIn
-few-replies r = chosen (λ (l : List (List ℕ)). length l ≤ 1) (eqb (numberOf (r .answer)) 1) (λ _. omega arith) (λ _. omega arith)
+few-replies r = chosen (λ (l : List (List ℕ)). length l ≤ 1) (eqb (r .written) 0) (λ _. omega arith) (λ _. omega arith)
 
 -- ---- no call of a history is refused with 11
 
@@ -64,11 +64,11 @@ few TooLong = omega arith
 few CutEscape = omega arith
 few BadHeader = omega arith
 
-never : (a p : List ℕ) (d : Device) (c : Call) → meant a p d c .number ≢ 11
-unfolding meant
+never : (a p : List ℕ) (d : Device) (c : ReceivingCall) → callMeans a p d c .number ≢ 11
+unfolding callMeans
 never a p d c =
-    chosen (λ (m : Told). m .number ≢ 11) (ltb (length (lentFrom (c .lent) a)) mostGathered) (λ _ e. omega arith)
-    (λ _. chosen (λ (m : Told). m .number ≢ 11) (ltb (length (c .output)) leastOutput) (λ _ e. omega arith)
+    chosen (λ (m : Report). m .number ≢ 11) (ltb (length (lentFrom (c .lent) a)) mostGathered) (λ _ e. omega arith)
+    (λ _. chosen (λ (m : Report). m .number ≢ 11) (ltb (length (c .output)) leastOutput) (λ _ e. omega arith)
     (λ _ e. omega (arith, few (call p (c .input) .fate))))
 
 module _ (s : Setup) (h : History) where
@@ -76,15 +76,15 @@ module _ (s : Setup) (h : History) where
   all = runs (h .assembly) [] (start s (h .assembly)) (h .calls) (starts s (h .assembly))
 
   -- one call more
-  after : (c : Call) → Step (h .assembly) (openAfter h) (readBy (h .assembly) (openAfter h) c) (endOf s h) c
+  after : (c : ReceivingCall) → Step (h .assembly) (openAfter h) (readBy (h .assembly) (openAfter h) c) (endOf s h) c
   unfolding endOf openAfter laid
   after c = step (h .assembly) (openAfter h) (endOf s h) c (all .stands)
 
-  meant-more : (c : Call) → tells (gives (endOf s h) c) ≡ meant (h .assembly) (openAfter h) (deviceIn s h) c
+  means-more : (c : ReceivingCall) → reported (gives (endOf s h) c) ≡ callMeans (h .assembly) (openAfter h) (deviceIn s h) c
   unfolding endOf deviceIn bodies laid
-  meant-more c = after c .tells ∙ ap (λ d. meant (h .assembly) (openAfter h) d c) (all .device)
+  means-more c = after c .reported ∙ ap (λ d. callMeans (h .assembly) (openAfter h) d c) (all .device)
 
-  few-more : (c : Call) → length (checkedIn (openAfter h) (readBy (h .assembly) (openAfter h) c)) ≤ 1
+  few-more : (c : ReceivingCall) → length (checkedIn (openAfter h) (readBy (h .assembly) (openAfter h) c)) ≤ 1
   few-more c =
       let bs = checkedIn (openAfter h) (readBy (h .assembly) (openAfter h) c) in
       let d = endOf s h .device in
@@ -92,14 +92,14 @@ module _ (s : Setup) (h : History) where
       rw (← size) (few-replies (gives (endOf s h) c))
 
   pub faithful : Faithful s h
-  unfolding repliesIn readIn endOf laid bodies deviceIn tells
+  unfolding repliesIn readIn endOf laid bodies deviceIn reported
   faithful =
       record {
         replies = all .replies;
         one-each = ap length (all .replies) ∙ length-map (repliesTo (deviceFrom s) (bodies h)) frame ∙ one-each (deviceFrom s) (bodies h);
         read = all .read;
         device = all .device;
-        more = meant-more;
+        more = means-more;
         at-most-one = few-more;
-        never-11 = λ c e. never (h .assembly) (openAfter h) (deviceIn s h) c (sym (ap (λ m. m .number) (meant-more c)) ∙ e);
+        never-11 = λ c e. never (h .assembly) (openAfter h) (deviceIn s h) c (sym (ap (λ m. m .number) (means-more c)) ∙ e);
       }

@@ -5,7 +5,7 @@ use mathlib.Core.List.{List, [], _∷_, _++_, map, map-append, foldl, foldl-appe
 use Prim.Native.Nat.{ℕ, _≤_}
 use native.Mathlib.Omega.{arith}
 use borrow.Author.Tests.{ltb-false}
-use lib.Dec.{eqb, ltb}
+use lib.Dec.{ltb}
 use lib.ListN.{length, take}
 use Rattle.octets.specs.Runs.{each}
 use Rattle.octets.proofs.LawsRuns.{each-append, emitted-append}
@@ -25,9 +25,9 @@ use Rattle.engine.proofs.LawsRepliesInOrder.{replies-append}
 use Rattle.engine.proofs.RulesKept.{bodies-keep}
 use Rattle.serial.specs.declared.call.Answer.{Answer}
 use Rattle.serial.specs.declared.call.Answer.the-variants.{SmallAssembly, SmallOutput}
-use Rattle.serial.specs.Receiving.{numberOf, leastOutput, breaksRules, refused, answered, receive}
-use Rattle.serial.specs.Histories.{Lent, own, short, Call, State, lentFrom, leftIn, gives, next, replyIn, repliesFrom, readFrom, isRefused, readBy, laidFrom, checkedOf, checkedIn, told, tells, meant}
-use Rattle.serial.proofs.LawsReceiving.{answered-device, answered-reply, answered-octets, answered-read}
+use Rattle.serial.specs.Receiving.{numberOf, leastOutput, breaksRules, refused, unrefused, receive}
+use Rattle.serial.specs.Histories.{Lent, own, short, ReceivingCall, State, lentFrom, leftIn, gives, next, replyIn, repliesFrom, readFrom, isRefused, readBy, laidFrom, checkedOf, checkedIn, report, reported, callMeans}
+use Rattle.serial.proofs.LawsReceiving.{unrefused-device, unrefused-reply, unrefused-octets, unrefused-read}
 
 -- ---- octets end to end
 
@@ -66,7 +66,7 @@ left-same (short x h) a = refl
 
 -- ---- between two calls
 
--- behind an open piece p, in a history whose own buffer is as long as a
+-- after an open piece p, in a history whose own buffer is as long as a
 pub record Stands (a p : List ℕ) (t : State) : Type 0 where
   pub device : rules (t .device) ≡ true
   pub reader : readerRules (t .reader) ≡ true
@@ -74,14 +74,14 @@ pub record Stands (a p : List ℕ) (t : State) : Type 0 where
   pub holds : mostGathered ≤ length a → After p (held (t .reader) (t .assembly))
 
 -- a call, told by the octets w that it read
-pub record Step (a p w : List ℕ) (t : State) (c : Call) : Type 0 where
+pub record Step (a p w : List ℕ) (t : State) (c : ReceivingCall) : Type 0 where
   pub read : take (gives t c .read) (c .input) ≡ w
   pub reply : replyIn (gives t c) ≡ map frame (repliesTo (t .device) (checkedIn p w))
   pub device : next t c .device ≡ deviceAfter (t .device) (checkedIn p w)
   pub stands : Stands a (unfinished p w) (next t c)
-  pub tells : tells (gives t c) ≡ meant a p (t .device) c
+  pub reported : reported (gives t c) ≡ callMeans a p (t .device) c
 
-module _ (a p : List ℕ) (t : State) (c : Call) (s : Stands a p t) where
+module _ (a p : List ℕ) (t : State) (c : ReceivingCall) (s : Stands a p t) where
   keeps : breaksRules (t .device) (t .reader) ≡ false
   unfolding breaksRules
   keeps = rw (s .device, s .reader)
@@ -90,23 +90,23 @@ module _ (a p : List ℕ) (t : State) (c : Call) (s : Stands a p t) where
   size = lent-size (c .lent) (t .assembly) a (s .size)
 
   -- a refused call leaves everything as it was
-  module _ (n : Answer) (other : eqb (numberOf n) 1 ≡ false) (g : gives t c ≡ refused n (t .device) (t .reader) (lentFrom (c .lent) (t .assembly)) (c .output)) where
+  module _ (n : Answer) (g : gives t c ≡ refused n (t .device) (t .reader) (lentFrom (c .lent) (t .assembly)) (c .output)) where
     same : next t c ≡ t
     unfolding next
     same =
         let left = ap (λ q. leftIn (c .lent) (t .assembly) (q .assembly)) g ∙ left-same (c .lent) (t .assembly) in
         λ i. record { device = g i .device; reader = g i .reader; assembly = left i }
 
-    refused-step : isRefused a c ≡ true → meant a p (t .device) c ≡ told (numberOf n) 0 [] → Step a p (readBy a p c) t c
-    unfolding readBy checkedIn checkedOf verdicts finished unfinished repliesTo deviceAfter next replyIn tells
+    refused-step : isRefused a c ≡ true → callMeans a p (t .device) c ≡ report (numberOf n) 0 [] → Step a p (readBy a p c) t c
+    unfolding readBy checkedIn checkedOf verdicts finished unfinished repliesTo deviceAfter next replyIn reported
     refused-step e m =
         rw e
         (record {
           read = ap (λ q. take (q .read) (c .input)) g;
-          reply = ap replyIn g ∙ simp other;
+          reply = ap replyIn g;
           device = ap (λ q. q .device) g;
           stands = rw same s;
-          tells = ap tells g ∙ sym m;
+          reported = ap reported g ∙ sym m;
         })
 
   -- a call that is not refused reads with the own buffer
@@ -120,9 +120,9 @@ module _ (a p : List ℕ) (t : State) (c : Call) (s : Stands a p t) where
     room : mostGathered ≤ length a
     room = ltb-false _ _ (rw is-own at e)
 
-    answers : gives t c ≡ answered (t .device) outcome (c .output)
+    answers : gives t c ≡ unrefused (t .device) outcome (c .output)
     unfolding gives receive outcome
-    answers = rw (keeps, size, e, f) (ap (λ l. answered (t .device) (run (held (t .reader) (lentFrom l (t .assembly))) (c .input)) (c .output)) is-own)
+    answers = rw (keeps, size, e, f) (ap (λ l. unrefused (t .device) (run (held (t .reader) (lentFrom l (t .assembly))) (c .input)) (c .output)) is-own)
 
     behind : After p (held (t .reader) (t .assembly))
     behind = s .holds room
@@ -139,14 +139,14 @@ module _ (a p : List ℕ) (t : State) (c : Call) (s : Stands a p t) where
 
     device-next : next t c .device ≡ deviceAfter (t .device) (checkedIn p (callReads p (c .input)))
     unfolding next
-    device-next = ap (λ q. q .device) answers ∙ answered-device (t .device) outcome (c .output) found
+    device-next = ap (λ q. q .device) answers ∙ unrefused-device (t .device) outcome (c .output) found
 
     state-next : held (next t c .reader) (next t c .assembly) ≡ outcome .state
     unfolding next
     state-next =
         ap (λ l. held (gives t c .reader) (leftIn l (t .assembly) (gives t c .assembly))) is-own
         ∙ ap (λ q. held (q .reader) (q .assembly)) answers
-        ∙ answered-read (t .device) outcome (c .output) .2
+        ∙ unrefused-read (t .device) outcome (c .output) .2
 
     stands-next : Stands a (unfinished p (callReads p (c .input))) (next t c)
     unfolding outcome
@@ -164,45 +164,45 @@ module _ (a p : List ℕ) (t : State) (c : Call) (s : Stands a p t) where
     unfolding closed
     fate-read =
         ap (λ r. numberOf (r .answer)) answers
-        ∙ ap numberOf (answered-read (t .device) outcome (c .output) .0)
+        ∙ ap numberOf (unrefused-read (t .device) outcome (c .output) .0)
         ∙ ap (λ o. number (o .fate)) is-closed
 
     count-read : gives t c .read ≡ call p (c .input) .read
     unfolding closed
-    count-read = ap (λ r. r .read) answers ∙ answered-read (t .device) outcome (c .output) .1 ∙ ap (λ o. o .read) is-closed
+    count-read = ap (λ r. r .read) answers ∙ unrefused-read (t .device) outcome (c .output) .1 ∙ ap (λ o. o .read) is-closed
 
     octets-written : take (gives t c .written) (gives t c .output) ≡ each frame (repliesTo (t .device) (checkedIn p (callReads p (c .input))))
-    octets-written = ap (λ r. take (r .written) (r .output)) answers ∙ answered-octets (t .device) outcome (c .output) found
+    octets-written = ap (λ r. take (r .written) (r .output)) answers ∙ unrefused-octets (t .device) outcome (c .output) found
 
     read-step : Step a p (readBy a p c) t c
-    unfolding readBy isRefused callReads tells meant
+    unfolding readBy isRefused callReads reported callMeans
     read-step =
         rw (e, f)
         (record {
           read = ap (λ n. take n (c .input)) count-read;
-          reply = ap replyIn answers ∙ answered-reply (t .device) outcome (c .output) found;
+          reply = ap replyIn answers ∙ unrefused-reply (t .device) outcome (c .output) found;
           device = device-next;
           stands = stands-next;
-          tells = rw (e, f) (λ i. record { number = fate-read i; read = count-read i; octets = octets-written i });
+          reported = rw (e, f) (λ i. record { number = fate-read i; read = count-read i; octets = octets-written i });
         })
 
   pub step : Step a p (readBy a p c) t c
-  unfolding isRefused meant gives receive
+  unfolding isRefused callMeans gives receive
   step =
       by-test (ltb (length (lentFrom (c .lent) a)) mostGathered)
-      (λ e. refused-step SmallAssembly refl (rw (keeps, size, e)) (rw e) (rw e))
+      (λ e. refused-step SmallAssembly (rw (keeps, size, e)) (rw e) (rw e))
       (λ e.
-      by-test (ltb (length (c .output)) leastOutput) (λ f. refused-step SmallOutput refl (rw (keeps, size, e, f)) (rw (e, f)) (rw (e, f))) (read-step e))
+      by-test (ltb (length (c .output)) leastOutput) (λ f. refused-step SmallOutput (rw (keeps, size, e, f)) (rw (e, f)) (rw (e, f))) (read-step e))
 
 -- ---- all calls
 
-pub record Runs (a p : List ℕ) (t : State) (cs : List Call) : Type 0 where
+pub record Runs (a p : List ℕ) (t : State) (cs : List ReceivingCall) : Type 0 where
   pub read : readFrom t cs ≡ laidFrom a p cs
   pub replies : repliesFrom t cs ≡ map frame (repliesTo (t .device) (checkedIn p (laidFrom a p cs)))
   pub device : foldl next t cs .device ≡ deviceAfter (t .device) (checkedIn p (laidFrom a p cs))
   pub stands : Stands a (unfinished p (laidFrom a p cs)) (foldl next t cs)
 
-pub runs : (a p : List ℕ) (t : State) (cs : List Call) → Stands a p t → Runs a p t cs
+pub runs : (a p : List ℕ) (t : State) (cs : List ReceivingCall) → Stands a p t → Runs a p t cs
 unfolding readFrom laidFrom repliesFrom checkedIn checkedOf verdicts finished unfinished repliesTo deviceAfter
 runs a p t [] s = record { read = refl; replies = refl; device = refl; stands = s }
 runs a p t (c ∷ cs) s =

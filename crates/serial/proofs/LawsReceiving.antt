@@ -3,9 +3,10 @@ use mathlib.Core.Path.{_≡_, refl, sym, _∙_}
 use mathlib.Core.Bool.{true, false, cond}
 use mathlib.Core.List.{List, [], _∷_, map, append-nil}
 use Prim.Native.Nat.{ℕ}
-use borrow.Author.Tests.{not-false}
+use native.Mathlib.Omega.{arith}
+use borrow.Author.Tests.{not-false, ne-eqb}
 use lib.Dec.{eqb}
-use lib.ListN.{take}
+use lib.ListN.{length, take}
 use lib.Seq.{take-append-seam}
 use Rattle.octets.specs.Runs.{each}
 use Rattle.octets.proofs.LawsTests.{by-test, both-told}
@@ -16,11 +17,13 @@ use Rattle.hdlc.specs.Frame.{frame, writing}
 use Rattle.hdlc.specs.Reading.{number, held, Outcome}
 use Rattle.hdlc.specs.Rules.{rules as readerRules}
 use Rattle.hdlc.specs.Wire.{bodyIn, told}
+use Rattle.hdlc.proofs.FrameBounds.{frame-bounds}
 use Rattle.device.specs.declared.state.Device.{Device}
 use Rattle.device.specs.Rules.{rules}
+use Rattle.engine.specs.Engine.{engine}
 use Rattle.engine.specs.Merged.{deviceAfter, repliesTo}
 use Rattle.serial.specs.declared.call.Answer.the-variants.{Read}
-use Rattle.serial.specs.Receiving.{breaksRules, answered}
+use Rattle.serial.specs.Receiving.{breaksRules, unrefused}
 use Rattle.serial.specs.Histories.{checkedOf, replyIn}
 
 pub rules-kept : (d : Device) (r : Reader) → breaksRules d r ≡ false → (rules d ≡ true) × (readerRules r ≡ true)
@@ -43,21 +46,24 @@ module _ (d : Device) (o : Outcome) (out : List ℕ) {bs : List (List ℕ)} (e :
   found : bs ≡ cond (eqb (number (o .fate)) 1) (bodyIn (o .fate) (o .state .assembly) ∷ []) []
   found = sym e ∙ checked-told (o .fate) (o .state .assembly)
 
-  pub answered-device : answered d o out .device ≡ deviceAfter d bs
-  unfolding answered deviceAfter
-  answered-device = rw found (by-test (eqb (number (o .fate)) 1) (λ t. rw t) (λ t. rw t))
+  pub unrefused-device : unrefused d o out .device ≡ deviceAfter d bs
+  unfolding unrefused deviceAfter
+  unrefused-device = rw found (by-test (eqb (number (o .fate)) 1) (λ t. rw t) (λ t. rw t))
 
-  pub answered-reply : replyIn (answered d o out) ≡ map frame (repliesTo d bs)
-  unfolding answered replyIn repliesTo writing
-  answered-reply = rw found (by-test (eqb (number (o .fate)) 1) (λ t. simp (t, take-append-seam)) (λ t. simp t))
+  pub unrefused-reply : replyIn (unrefused d o out) ≡ map frame (repliesTo d bs)
+  unfolding unrefused replyIn repliesTo writing
+  unrefused-reply =
+      let reply = engine d (bodyIn (o .fate) (o .state .assembly)) .reply in
+      let some : eqb (length (frame reply)) 0 ≡ false = ne-eqb (length (frame reply)) 0 (λ z. omega (arith, frame-bounds reply)) in
+      rw found (by-test (eqb (number (o .fate)) 1) (λ t. simp (t, some, take-append-seam)) (λ t. simp t))
 
-  pub answered-octets : take (answered d o out .written) (answered d o out .output) ≡ each frame (repliesTo d bs)
-  unfolding answered repliesTo writing
-  answered-octets = rw found (by-test (eqb (number (o .fate)) 1) (λ t. simp (t, take-append-seam, append-nil)) (λ t. simp t))
+  pub unrefused-octets : take (unrefused d o out .written) (unrefused d o out .output) ≡ each frame (repliesTo d bs)
+  unfolding unrefused repliesTo writing
+  unrefused-octets = rw found (by-test (eqb (number (o .fate)) 1) (λ t. simp (t, take-append-seam, append-nil)) (λ t. simp t))
 
 -- the rest is what the reader gave
-pub answered-read : (d : Device) (o : Outcome) (out : List ℕ)
-    → (answered d o out .answer ≡ Read (o .fate)) × (answered d o out .read ≡ o .read)
-    × (held (answered d o out .reader) (answered d o out .assembly) ≡ o .state)
-unfolding answered
-answered-read d o out = by-test (eqb (number (o .fate)) 1) (λ t. rw t (refl, refl, refl)) (λ t. rw t (refl, refl, refl))
+pub unrefused-read : (d : Device) (o : Outcome) (out : List ℕ)
+    → (unrefused d o out .answer ≡ Read (o .fate)) × (unrefused d o out .read ≡ o .read)
+    × (held (unrefused d o out .reader) (unrefused d o out .assembly) ≡ o .state)
+unfolding unrefused
+unrefused-read d o out = by-test (eqb (number (o .fate)) 1) (λ t. rw t (refl, refl, refl)) (λ t. rw t (refl, refl, refl))

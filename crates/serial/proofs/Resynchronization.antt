@@ -1,17 +1,18 @@
--- PROMISE: no noise leaves the box deaf. If what a history's calls read, laid end to end, is any octets xs, then 7E, then the frame of a
--- body b of 2 to 1,300 octets with top bits 10, then b is the last checked body, and the last reply is the engine's to b, on the box after
--- the checked bodies of xs and 7E. Assumes nothing.
-use mathlib.Core.Path.{_≡_, sym, ap, _∙_}
-use mathlib.Core.List.{List, [], _∷_, _++_, append-assoc, map}
+-- PROMISE: the first frame after any noise is answered. If what a history's calls read, laid end to end, is any octets xs, then the frame
+-- of a body b of 2 to 1,300 octets with top bits 10, then any octets ys, then the checked bodies are those of xs and the frame's first
+-- flag, then b, then those of ys, and b's reply is the engine's, on the box after the bodies before it. The same where 7E stands between
+-- xs and the frame, and the frame comes last. Assumes nothing.
+use mathlib.Core.Path.{_≡_, refl, sym, ap, subst, _∙_}
+use mathlib.Core.List.{List, [], _∷_, _++_, append-assoc, append-nil, map}
 use Prim.Native.Nat.{ℕ, _/_}
 use borrow.Author.Tests.{eq-eqb}
 use lib.Seq.{take-length}
 use Rattle.octets.specs.Octets.{Octets}
 use Rattle.hdlc.specs.Kinds.{isFlag}
-use Rattle.hdlc.specs.Frame.{Body, frame}
+use Rattle.hdlc.specs.Frame.{Body, stuffed, checked, frame}
 use Rattle.hdlc.specs.Reading.{headed}
-use Rattle.hdlc.specs.Wire.{told, grown, unfinished}
-use Rattle.hdlc.proofs.RoundTrip.{frame-told}
+use Rattle.hdlc.specs.Wire.{kept, gathered, cutEscape, verdict, ended, grown, finished, unfinished, told, verdicts}
+use Rattle.hdlc.proofs.RoundTrip.{frame-told, frame-leaves}
 use Rattle.command.specs.Reply.{headerOf}
 use Rattle.engine.specs.Engine.{engine}
 use Rattle.engine.specs.Merged.{deviceAfter, repliesTo}
@@ -19,33 +20,64 @@ use Rattle.serial.specs.Histories.{Setup, deviceFrom, History, repliesIn
 use Rattle.serial.proofs.LawsHistories.{checked-append, unfinished-append, frames-append}
 use Rattle.serial.proofs.Faithful.{faithful}
 
-pub record Resynchronized (s : Setup) (h : History) (xs b : List ℕ) : Type 0 where
-  pub bodies : bodies h ≡ checkedIn [] (xs ++ (0x7e ∷ [])) ++ (b ∷ [])
-  pub replies : let d = deviceFrom s in let before = checkedIn [] (xs ++ (0x7e ∷ [])) in
-      repliesIn s h ≡ map frame (repliesTo d before) ++ (frame (engine (deviceAfter d before) b .reply) ∷ [])
+-- b is checked and answered after some bodies and before others
+pub record Answers (s : Setup) (h : History) (before : List (List ℕ)) (b : List ℕ) (later : List (List ℕ)) : Type 0 where
+  pub bodies : bodies h ≡ before ++ (b ∷ later)
+  pub replies : let d = deviceAfter (deviceFrom s) before in
+      repliesIn s h ≡ map frame (repliesTo (deviceFrom s) before) ++ (frame (engine d b .reply) ∷ map frame (repliesTo (engine d b .device) later))
 
--- a frame is one checked body
-frame-checked : (b : List ℕ) → Body b → Octets b → headerOf b / 64 ≡ 2 → checkedIn [] (frame b) ≡ b ∷ []
-unfolding checkedIn checkedOf headed told
-frame-checked b size octets top =
-    ap checkedOf (frame-told b size octets) ∙ rw (eq-eqb (headerOf b / 64) 2 top) (ap (λ l. l ∷ []) (take-length b))
+-- ---- flags
 
 -- a flag leaves nothing open
 flag-ends : (xs : List ℕ) → unfinished [] (xs ++ (0x7e ∷ [])) ≡ []
 unfolding unfinished grown isFlag
 flag-ends xs = unfinished-append [] xs (0x7e ∷ [])
 
-pub resynchronizes : (s : Setup) (h : History) (xs b : List ℕ) → Body b → Octets b → headerOf b / 64 ≡ 2 → laid h ≡ xs ++ (0x7e ∷ frame b)
-    → Resynchronized s h xs b
-unfolding bodies repliesTo
-resynchronizes s h xs b size octets top e =
-    let noise : List ℕ = xs ++ (0x7e ∷ []) in
-    let all : bodies h ≡ checkedIn [] noise ++ (b ∷ []) =
-    ap (checkedIn []) (e ∙ sym (append-assoc xs (0x7e ∷ []) (frame b)))
-    ∙ checked-append [] noise (frame b)
-    ∙ ap (λ q. checkedIn [] noise ++ checkedIn q (frame b)) (flag-ends xs)
-    ∙ ap (λ bs. checkedIn [] noise ++ bs) (frame-checked b size octets top) in
-    record {
-      bodies = all;
-      replies = faithful s h .replies ∙ ap (λ bs. map frame (repliesTo (deviceFrom s) bs)) all ∙ frames-append (deviceFrom s) (checkedIn [] noise) (b ∷ []);
-    }
+-- one with nothing before it is no frame
+flag-alone : (xs : List ℕ) → checkedIn [] (0x7e ∷ xs) ≡ checkedIn [] xs
+unfolding checkedIn checkedOf verdicts finished ended grown isFlag verdict gathered cutEscape kept told
+flag-alone xs = refl
+
+-- so what a flag follows and what follows it have their own bodies
+flag-parts : (xs ys : List ℕ) → checkedIn [] (xs ++ (0x7e ∷ ys)) ≡ checkedIn [] (xs ++ (0x7e ∷ [])) ++ checkedIn [] ys
+flag-parts xs ys =
+    ap (checkedIn []) (sym (append-assoc xs (0x7e ∷ []) ys))
+    ∙ checked-append [] (xs ++ (0x7e ∷ [])) ys
+    ∙ ap (λ q. checkedIn [] (xs ++ (0x7e ∷ [])) ++ checkedIn q ys) (flag-ends xs)
+
+module _ (b : List ℕ) (size : Body b) (octets : Octets b) (top : headerOf b / 64 ≡ 2) where
+  -- a frame is one checked body, and leaves nothing open
+  frame-checked : checkedIn [] (frame b) ≡ b ∷ []
+  unfolding checkedIn checkedOf headed told
+  frame-checked = ap checkedOf (frame-told b size octets) ∙ rw (eq-eqb (headerOf b / 64) 2 top) (ap (λ l. l ∷ []) (take-length b))
+
+  frame-then : (ys : List ℕ) → checkedIn [] (frame b ++ ys) ≡ b ∷ checkedIn [] ys
+  frame-then ys = checked-append [] (frame b) ys ∙ rw (frame-checked, frame-leaves b size octets)
+
+  -- its first flag ends what was open before it
+  noise-then : (xs ys : List ℕ) → checkedIn [] (xs ++ (frame b ++ ys)) ≡ checkedIn [] (xs ++ (0x7e ∷ [])) ++ (b ∷ checkedIn [] ys)
+  unfolding frame
+  noise-then xs ys =
+      let rest : List ℕ = stuffed (checked b) ++ (0x7e ∷ []) in
+      flag-parts xs (rest ++ ys) ∙ ap (λ l. checkedIn [] (xs ++ (0x7e ∷ [])) ++ l) (sym (flag-alone (rest ++ ys)) ∙ frame-then ys)
+
+  pub resynchronizes : (s : Setup) (h : History) (xs ys : List ℕ) → laid h ≡ xs ++ (frame b ++ ys)
+      → Answers s h (checkedIn [] (xs ++ (0x7e ∷ []))) b (checkedIn [] ys)
+  unfolding bodies repliesTo
+  resynchronizes s h xs ys e =
+      let before = checkedIn [] (xs ++ (0x7e ∷ [])) in
+      let all = ap (checkedIn []) e ∙ noise-then xs ys in
+      record {
+        bodies = all;
+        replies = faithful s h .replies ∙ ap (λ bs. map frame (repliesTo (deviceFrom s) bs)) all ∙ frames-append (deviceFrom s) before (b ∷ checkedIn [] ys);
+      }
+
+  -- a flag of its own before the frame, and nothing after it: the last reply is b's
+  pub last-reply : (s : Setup) (h : History) (xs : List ℕ) → laid h ≡ xs ++ (0x7e ∷ frame b) → Answers s h (checkedIn [] (xs ++ (0x7e ∷ []))) b []
+  unfolding checkedIn checkedOf verdicts finished
+  last-reply s h xs e =
+      let noise : List ℕ = xs ++ (0x7e ∷ []) in
+      let last : laid h ≡ noise ++ (frame b ++ []) = e ∙ sym (ap (λ l. noise ++ l) (append-nil (frame b)) ∙ append-assoc xs (0x7e ∷ []) (frame b)) in
+      let same : checkedIn [] (noise ++ (0x7e ∷ [])) ≡ checkedIn [] noise =
+      ap (checkedIn []) (append-assoc xs (0x7e ∷ []) (0x7e ∷ [])) ∙ flag-parts xs (0x7e ∷ []) ∙ ap (λ l. checkedIn [] noise ++ l) (flag-alone []) ∙ append-nil (checkedIn [] noise) in
+      subst (λ before. Answers s h before b []) same (resynchronizes s h noise [] last)

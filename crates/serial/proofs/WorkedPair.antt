@@ -1,7 +1,7 @@
 -- PROMISE: the premise of `separate` can be met. Two histories of link 1: one with noise, cuts in a frame and in an escape, both refusals,
--- joined frames and settings of link 0, the other clean. Their octets and bodies differ, and link 1's merged sequence is the same, by
--- computation. Assumes nothing.
-use mathlib.Core.Path.{_≡_, refl}
+-- joined frames and settings of link 0, the other clean. Their octets and bodies differ, and link 1's merged sequence is the same six
+-- items, by computation. Assumes nothing.
+use mathlib.Core.Path.{_≡_, refl, sym, _∙_}
 use mathlib.Core.List.{List, [], _∷_}
 use Prim.Native.Nat.{ℕ}
 use native.Mathlib.Omega.{arith}
@@ -16,8 +16,9 @@ use Rattle.hdlc.specs.Wire.{kept, meant, pends, gathered, cutEscape, verdict, e
 use Rattle.device.specs.State.{goodText, isText, fresh}
 use Rattle.device.specs.Setup.{isSetup, setupFor}
 use Rattle.engine.specs.Engine.{linkOf, isSetUp}
-use Rattle.engine.specs.Merged.{isReset, isPower, effectOf, effectItem, itemOf, merged}
-use Rattle.serial.specs.Histories.{Setup, own, short, Call, History, isRefused, readBy, laidFrom, laid, checkedOf, checkedIn, bodies}
+use Rattle.command.specs.declared.view.Effect.the-variants.{Reset, Powered}
+use Rattle.engine.specs.Merged.{isReset, isPower, effectOf, Item, whole, only, effectItem, itemOf, merged}
+use Rattle.serial.specs.Histories.{Setup, own, short, ReceivingCall, History, isRefused, readBy, laidFrom, laid, checkedOf, checkedIn, bodies}
 use Rattle.serial.specs.Links.{mergedIn}
 use Rattle.serial.proofs.Separate.{Alike, separate}
 
@@ -26,7 +27,7 @@ abbrev pub two-links : Setup
 two-links = record { links = 2; vendor = 0; text = []; address = replicate 8 0 }
 
 -- a call with the own buffer and room for a reply
-abbrev reads : List ℕ → Call
+abbrev reads : List ℕ → ReceivingCall
 reads xs = record { lent = own; input = xs; output = replicate 128 0 }
 
 abbrev pub noisy : History
@@ -66,14 +67,24 @@ clean =
           [];
     }
 
-pub same-merged : mergedIn two-links 1 noisy ≡ mergedIn two-links 1 clean
+-- a reset and power state 2 by link 0, and four bodies of link 1
+abbrev pub expected : List Item
+expected =
+    only Reset ∷
+    whole (0x93 ∷ 0x03 ∷ 0x21 ∷ 0x0c ∷ []) ∷
+    only (Powered 2) ∷
+    whole (0x92 ∷ 0x02 ∷ 0x07 ∷ []) ∷
+    whole (0x93 ∷ 0x03 ∷ 0x21 ∷ 0xff ∷ []) ∷
+    whole (0x9d ∷ 0x04 ∷ 0x5c ∷ 0x13 ∷ 0x00 ∷ []) ∷
+    []
+
+pub both-merged : (mergedIn two-links 1 noisy ≡ expected) × (mergedIn two-links 1 clean ≡ expected)
 unfolding before le leAt pad isFlag isEscape isSkipped fcsBit fcsBits fcsOctet fcsFrom fcs bodyOf checkOf headed judged
     kept meant pends gathered cutEscape verdict ended grown finished unfinished told verdicts verdictAt call callReads
     goodText isText fresh isSetup setupFor linkOf isSetUp isReset isPower effectOf effectItem itemOf merged
     isRefused readBy laidFrom laid checkedOf checkedIn bodies mergedIn
-same-merged = refl
+both-merged = (refl, refl)
 
--- seven checked bodies and six
 pub other-bodies : (length (bodies noisy) ≡ 7) × (length (bodies clean) ≡ 6)
 unfolding le leAt isFlag isEscape isSkipped fcsBit fcsBits fcsOctet fcsFrom fcs bodyOf checkOf headed judged
     kept meant pends gathered cutEscape verdict ended grown finished unfinished told verdicts verdictAt call callReads
@@ -81,4 +92,4 @@ unfolding le leAt isFlag isEscape isSkipped fcsBit fcsBits fcsOctet fcsFrom fcs 
 other-bodies = (refl, refl)
 
 pub alike : Alike two-links 1 noisy clean
-alike = separate two-links 1 (omega arith) noisy clean same-merged
+alike = separate two-links 1 (omega arith) noisy clean (both-merged .0 ∙ sym (both-merged .1))

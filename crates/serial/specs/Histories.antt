@@ -33,7 +33,7 @@ pub data Lent : Type 0 where
   short : (b : List ℕ) → length b < mostGathered → Lent
 
 -- "Inputs and output spaces are any"
-pub record Call : Type 0 where
+pub record ReceivingCall : Type 0 where
   pub lent : Lent
   pub input : List ℕ
   pub output : List ℕ
@@ -41,7 +41,7 @@ pub record Call : Type 0 where
 -- "Each history has its own assembly buffer, of any length and contents"
 pub record History : Type 0 where
   pub assembly : List ℕ
-  pub calls : List Call
+  pub calls : List ReceivingCall
 
 -- ---- its calls, one after the other
 
@@ -60,11 +60,11 @@ abbrev pub leftIn : Lent → List ℕ → List ℕ → List ℕ
 leftIn own a b = b
 leftIn (short _ h) a b = a
 
-unfoldable pub gives : State → Call → Result
+unfoldable pub gives : State → ReceivingCall → Result
 gives t c = receive (t .device) (t .reader) (c .input) (lentFrom (c .lent) (t .assembly)) (c .output)
 
 -- "Each call gets the box and the reader that the last one returned", and the own buffer "as the last call left it"
-unfoldable pub next : State → Call → State
+unfoldable pub next : State → ReceivingCall → State
 next t c =
     record {
       device = gives t c .device;
@@ -81,19 +81,19 @@ endOf s h = foldl next (start s (h .assembly)) (h .calls)
 
 -- ---- what its calls returned
 
--- the octets of a call's reply, where a frame was answered
+-- what a call wrote, if it wrote anything
 unfoldable pub replyIn : Result → List (List ℕ)
-replyIn r = cond (eqb (numberOf (r .answer)) 1) (take (r .written) (r .output) ∷ []) []
+replyIn r = cond (eqb (r .written) 0) [] (take (r .written) (r .output) ∷ [])
 
 -- "octets written", a list for each reply
-unfoldable pub repliesFrom : State → List Call → List (List ℕ)
+unfoldable pub repliesFrom : State → List ReceivingCall → List (List ℕ)
 repliesFrom t cs = emitted (λ u c. replyIn (gives u c)) next t cs
 
 unfoldable pub repliesIn : Setup → History → List (List ℕ)
 repliesIn s h = repliesFrom (start s (h .assembly)) (h .calls)
 
 -- the octets that the calls read, by the counts that they returned
-unfoldable pub readFrom : State → List Call → List ℕ
+unfoldable pub readFrom : State → List ReceivingCall → List ℕ
 readFrom t cs = emitted (λ u c. take (gives u c .read) (c .input)) next t cs
 
 unfoldable pub readIn : Setup → History → List ℕ
@@ -102,15 +102,15 @@ readIn s h = readFrom (start s (h .assembly)) (h .calls)
 -- ---- the same by the octets
 
 -- a call is refused for its buffers alone; `a` is the history's own, whose length no call changes
-unfoldable pub isRefused : List ℕ → Call → Bool
+unfoldable pub isRefused : List ℕ → ReceivingCall → Bool
 isRefused a c = ltb (length (lentFrom (c .lent) a)) mostGathered || ltb (length (c .output)) leastOutput
 
--- behind an open piece p a call reads nothing if it is refused, else "its input to the first flag with a fate, that flag included, else all"
-unfoldable pub readBy : List ℕ → List ℕ → Call → List ℕ
+-- after an open piece p a call reads nothing if it is refused, else "its input to the first flag with a fate, that flag included, else all"
+unfoldable pub readBy : List ℕ → List ℕ → ReceivingCall → List ℕ
 readBy a p c = cond (isRefused a c) [] (callReads p (c .input))
 
 -- "Lay end to end what the unrefused calls read"; each goes on with the piece that the last one left
-unfoldable pub laidFrom : List ℕ → List ℕ → List Call → List ℕ
+unfoldable pub laidFrom : List ℕ → List ℕ → List ReceivingCall → List ℕ
 laidFrom a p cs = emitted (readBy a) (λ q c. unfinished q (readBy a q c)) p cs
 
 unfoldable pub laid : History → List ℕ
@@ -120,7 +120,7 @@ laid h = laidFrom (h .assembly) [] (h .calls)
 unfoldable pub checkedOf : List Verdict → List (List ℕ)
 checkedOf vs = each (λ v. cond (eqb (v .number) 1) (v .body ∷ []) []) vs
 
--- the checked bodies that octets finish behind an open piece p: "Cut this at the flags"
+-- the checked bodies that octets finish after an open piece p: "Cut this at the flags"
 unfoldable pub checkedIn : List ℕ → List ℕ → List (List ℕ)
 checkedIn p xs = checkedOf (verdicts (finished p xs))
 
@@ -130,25 +130,25 @@ bodies h = checkedIn [] (laid h)
 
 -- ---- one call by the octets
 
--- what a call tells its caller: 01's number, how many octets it read, and the octets that it wrote
-pub record Told : Type 0 where
+-- what a call reports to its caller: 01's number, how many octets it read, and the octets that it wrote
+pub record Report : Type 0 where
   pub number : ℕ
   pub read : ℕ
   pub octets : List ℕ
 
-abbrev pub told : ℕ → ℕ → List ℕ → Told
-told n k xs = record { number = n; read = k; octets = xs }
+abbrev pub report : ℕ → ℕ → List ℕ → Report
+report n k xs = record { number = n; read = k; octets = xs }
 
-unfoldable pub tells : Result → Told
-tells r = told (numberOf (r .answer)) (r .read) (take (r .written) (r .output))
+unfoldable pub reported : Result → Report
+reported r = report (numberOf (r .answer)) (r .read) (take (r .written) (r .output))
 
--- behind an open piece p, with the device d, and `a` for the own buffer: refusals, else the fate of the piece that ends, and the frames
--- of the replies to what was checked
-unfoldable pub meant : List ℕ → List ℕ → Device → Call → Told
-meant a p d c =
-    cond (ltb (length (lentFrom (c .lent) a)) mostGathered) (told 12 0 [])
-    (cond (ltb (length (c .output)) leastOutput) (told 13 0 [])
-    (told (number (call p (c .input) .fate)) (call p (c .input) .read) (each frame (repliesTo d (checkedIn p (callReads p (c .input)))))))
+-- what it has to report after an open piece p, with the device d, and `a` for the own buffer: 12 or 13, else the fate of the first piece
+-- that has one (0 if none has), the octets up to its flag, and the frames of the replies to what was checked
+unfoldable pub callMeans : List ℕ → List ℕ → Device → ReceivingCall → Report
+callMeans a p d c =
+    cond (ltb (length (lentFrom (c .lent) a)) mostGathered) (report 12 0 [])
+    (cond (ltb (length (c .output)) leastOutput) (report 13 0 [])
+    (report (number (call p (c .input) .fate)) (call p (c .input) .read) (each frame (repliesTo d (checkedIn p (callReads p (c .input)))))))
 
 -- the piece that is open after a history, and the device
 unfoldable pub openAfter : History → List ℕ

@@ -53,7 +53,7 @@ resultOf r a out =
 abbrev pub refused : Answer → Device → Reader → List ℕ → List ℕ → Result
 refused n d r a out = record { answer = n; read = 0; written = 0; device = d; reader = r; assembly = a; output = out }
 
--- fate 1, "frame answered": the engine's reply is framed at the front of the output, and behind it stands what the output held
+-- fate 1, "frame unrefused": the engine's reply is framed at the front of the output, and behind it stands what the output held
 abbrev pub replied : Outcome → Answered → List ℕ → Result
 replied o e out =
     record {
@@ -80,8 +80,8 @@ unanswered o d out =
     }
 
 -- what was read; a checked body stands at the front of the assembly buffer
-unfoldable pub answered : Device → Outcome → List ℕ → Result
-answered d o out =
+unfoldable pub unrefused : Device → Outcome → List ℕ → Result
+unrefused d o out =
     cond (eqb (number (o .fate)) 1) (replied o (engine d (bodyIn (o .fate) (o .state .assembly))) out) (unanswered o d out)
 
 -- "state breaks its own rules": the box, or the reader
@@ -94,4 +94,4 @@ receive d r input a out =
     cond (breaksRules d r) (refused BadState d r a out)
     (cond (ltb (length a) mostGathered) (refused SmallAssembly d r a out)
     (cond (ltb (length out) leastOutput) (refused SmallOutput d r a out)
-    (answered d (run (held r a) input) out)))
+    (unrefused d (run (held r a) input) out)))

@@ -15,7 +15,7 @@ ghost use Rattle.hdlc.specs.Rules.{rules as readerRules};
 ghost use Rattle.device.specs.Rules.{rules};
 ghost use Rattle.command.specs.Reply.{headerOf};
 ghost use Rattle.engine.specs.Engine.{engine};
-ghost use Rattle.serial.specs.Receiving.{leastOutput, resultOf, breaksRules, answered, receive};
+ghost use Rattle.serial.specs.Receiving.{leastOutput, resultOf, breaksRules, unrefused, receive};
 
 // What a call answers, with 01's numbers.
 pub enum Answer {
@@ -55,7 +55,7 @@ fn breaks_rules(device: Device, reader: Reader) -> bool
 }
 
 // A call that writes no reply. A refused one reads nothing either.
-fn unanswered(answer: Answer, read: usize, device: Device, reader: Reader) -> Received
+fn without_reply(answer: Answer, read: usize, device: Device, reader: Reader) -> Received
     ensures { λ r. ⌜ r ≡ record { answer = answer; read = read; written = 0; device = device; reader = reader } ⌝ }
 {
     Received {
@@ -97,7 +97,7 @@ fn read_and_reply(
     requires room { ⌜ (mostGathered ≤ length (now assembly)) × (leastOutput ≤ length (now output)) ⌝ }
     ensures { λ r.
         ⌜ resultOf r (now (assembly .exit)) (now (output .exit))
-        ≡ answered device (run (held reader (now (assembly .entry))) (now (input .entry))) (now (output .entry)) ⌝ }
+        ≡ unrefused device (run (held reader (now (assembly .entry))) (now (input .entry))) (now (output .entry)) ⌝ }
 {
     let reading = read_frame(reader, input, assembly);
     let fate = reading.fate;
@@ -113,7 +113,7 @@ fn read_and_reply(
             reader: next,
         };
     }
-    unanswered(Answer::Read(fate), reading.read, device, next)
+    without_reply(Answer::Read(fate), reading.read, device, next)
 }
 
 // Takes any box, any reader, any input and any buffers. A refused call reads nothing, writes nothing and hands both states back.
@@ -129,13 +129,13 @@ pub fn receive(
         ≡ receive device reader (now (input .entry)) (now (assembly .entry)) (now (output .entry)) ⌝ }
 {
     if breaks_rules(device, reader) {
-        return unanswered(Answer::BadState, 0, device, reader);
+        return without_reply(Answer::BadState, 0, device, reader);
     }
     if assembly.len() < Reader::MOST_GATHERED {
-        return unanswered(Answer::SmallAssembly, 0, device, reader);
+        return without_reply(Answer::SmallAssembly, 0, device, reader);
     }
     if output.len() < Device::LEAST_OUTPUT {
-        return unanswered(Answer::SmallOutput, 0, device, reader);
+        return without_reply(Answer::SmallOutput, 0, device, reader);
     }
     read_and_reply(device, reader, input, assembly, output)
 }

@@ -1,11 +1,11 @@
--- A turn's line fits its space. Assumes nothing.
-use mathlib.Core.Path.{sym}
+-- A turn's line fits its space, and what is gone on with is the turn's. Assumes nothing.
+use mathlib.Core.Path.{refl, sym}
 use Prim.Native.Nat.{_≤_}
 use native.Mathlib.Omega.{arith}
 use borrow.Author.Needs.{needs}
 use lib.ListN.{length}
 use lib.Seq.{length-take-le}
-use Rattle.ncp.proofs.LawsTurns.{took-read, took-room}
+use Rattle.ncp.proofs.LawsTurns.{goes-on, took-read, took-room}
 use Rattle.ncp.proofs.serve.serve_call.Statement.{statement}
 use Rattle.ncp.proofs.serve.serve_call.Tie as tie
 
@@ -29,6 +29,6 @@ serve-call-spec =
     (λ c. sym (length-take-le _ _ (room (c .before .before .before .before .before))))
     (λ c κs. search needs)
     (λ c. search needs)
-    (λ c. read (c .before .before .before .before .before .before .before))
+    (λ c. let t = c .before .before .before .before .before .before .before in (read t, goes-on (t .receive-line .ensures) refl refl))
     (λ c. search needs)
-    (λ c. search needs))
+    (λ c. let t = c .before .before .before .before .before .before .before in (omega arith, goes-on (t .receive-line .ensures) refl refl)))

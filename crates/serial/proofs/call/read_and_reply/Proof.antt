@@ -12,7 +12,7 @@ use Rattle.hdlc.proofs.LawsReading.{tag-unchecked}
 use Rattle.hdlc.proofs.ReaderRules.{rules-told}
 use Rattle.hdlc.proofs.CheckedBodies.{checked-body}
 use Rattle.serial.specs.declared.call.Answer.the-variants.{Read}
-use Rattle.serial.specs.Receiving.{answered}
+use Rattle.serial.specs.Receiving.{unrefused}
 use Rattle.serial.proofs.call.read_and_reply.Statement.{statement}
 use Rattle.serial.proofs.call.read_and_reply.Tie as tie
 
@@ -46,7 +46,7 @@ module _ (c : tie.After-known-told) where
   room = let f = fits in omega (arith, call .read-frame .kept, start .pre .1)
 
 pub read-and-reply-spec : {M : Type 1} → statement M
-unfolding answered
+unfolding unrefused
 read-and-reply-spec =
     tie.close
     (tie.spec
@@ -72,4 +72,4 @@ read-and-reply-spec =
     }))
     (λ c κs. search needs)
     (λ c. search needs)
-    (λ c. rw (c .unanswered .ensures, ← c .before .before .before .before .before .read-frame .ensures, tag-unchecked _ [] (c .before .match .keys2) .0)))
+    (λ c. rw (c .without-reply .ensures, ← c .before .before .before .before .before .read-frame .ensures, tag-unchecked _ [] (c .before .match .keys2) .0)))

@@ -14,16 +14,16 @@ receive-spec =
     (tie.spec
     (λ c κs. search needs)
     (λ c κs. search needs)
-    (λ c. rw (sym (c .before .before .breaks-rules .ensures) ∙ c .before .if1 .taken, c .unanswered .ensures))
+    (λ c. rw (sym (c .before .before .breaks-rules .ensures) ∙ c .before .if1 .taken, c .without-reply .ensures))
     (λ c κs. search needs)
-    (λ c. let b = c .before .before in rw (sym (b .before .breaks-rules .ensures) ∙ b .if1 .left, lt-ltb _ _ (c .before .if2 .taken), c .unanswered2 .ensures))
+    (λ c. let b = c .before .before in rw (sym (b .before .breaks-rules .ensures) ∙ b .if1 .left, lt-ltb _ _ (c .before .if2 .taken), c .without-reply2 .ensures))
     (λ c κs. search needs)
     (λ c. let b = c .before .before .before in
     rw (
       sym (b .before .breaks-rules .ensures) ∙ b .if1 .left,
       le-ltb _ _ (c .before .before .if2 .left),
       lt-ltb _ _ (c .before .if3 .taken),
-      c .unanswered3 .ensures,
+      c .without-reply3 .ensures,
     ))
     (λ c κs. let b = c .before .before .before .before in
     (rules-kept _ _ (sym (b .before .breaks-rules .ensures) ∙ b .if1 .left), search needs))
