@@ -1,5 +1,5 @@
--- PROMISE: the next flag always ends the trouble. Whatever a reader holds that keeps its rules, and whatever stands in its assembly buffer
--- of 1,302 octets or more, 7E and then the frame of a body give first the fate of what was open, if it has one, and then fate 1 where the
+-- PROMISE: a flag ends whatever was open. Whatever a reader holds, and whatever stands in its assembly buffer of 1,302 octets or more, 7E
+-- and then the frame of a body give first the fate of what was open, if it has one, and then fate 1 where the
 -- body's top two header bits are 10 and fate 6 where not, with that body at the front of the buffer. Assumes nothing.
 use mathlib.Core.Bool.{true, false, cond}
 use mathlib.Core.Path.{_≡_, refl, sym, ap, _∙_}

@@ -1,4 +1,4 @@
-// Standard input and output around the box. No contract can say what is read or written there.
+// Standard input and output around the box. No contract can say what is read or written there; it is run and compared.
 use crate::turn::MOST_LINE;
 use crate::turn::receive_line;
 use device::Device;
