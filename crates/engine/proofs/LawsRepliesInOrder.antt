@@ -1,6 +1,6 @@
 -- The replies to bodies one after the other: one to each, in order; a link's are those at the places of its bodies. Assumes nothing.
 use mathlib.Core.Path.{_≡_, refl, ap}
-use mathlib.Core.List.{List, [], _∷_, _++_, map}
+use mathlib.Core.List.{List, [], _∷_, _++_, map, foldl-append}
 use Prim.Native.Nat.{ℕ, suc}
 use lib.ListN.{length}
 use Rattle.octets.proofs.LawsRuns.{emitted-append}
@@ -8,6 +8,10 @@ use Rattle.octets.proofs.LawsTests.{by-test}
 use Rattle.device.specs.declared.state.Device.{Device}
 use Rattle.engine.specs.Merged.{deviceStep, deviceAfter, repliesTo, isAnswered, repliesOn, picked}
 use Rattle.engine.proofs.Separation.{step-settings}
+
+pub device-append : (d : Device) (bs cs : List (List ℕ)) → deviceAfter d (bs ++ cs) ≡ deviceAfter (deviceAfter d bs) cs
+unfolding deviceAfter
+device-append d bs cs = foldl-append deviceStep d bs cs
 
 pub replies-append : (d : Device) (bs cs : List (List ℕ)) → repliesTo d (bs ++ cs) ≡ repliesTo d bs ++ repliesTo (deviceAfter d bs) cs
 unfolding repliesTo deviceAfter

@@ -4,7 +4,7 @@ use mathlib.Core.Path.{_≡_, sym, ap, ap₂, subst, _∙_}
 use mathlib.Core.List.{List, [], _∷_, _++_, append-assoc}
 use Prim.Native.Nat.{ℕ, _-_, _/_, _≤_}
 use native.Mathlib.Omega.{arith}
-use borrow.Author.Tests.{ltb-false, eqb-true}
+use borrow.Author.Tests.{ltb-false, eqb-true, eq-eqb}
 use lib.Dec.{ltb, eqb}
 use lib.ListN.{length, getD, drop, take-append-drop}
 use lib.Seq.{length-take-le, take-length, take-append-seam, getD-take}
@@ -33,6 +33,10 @@ judged-checked g n =
     (λ u. simp (u, headed-gathered g long)
     (by-test (eqb (getD g 0 0 / 64) 2) (λ v. simp v (λ e. (long, cc, eqb-true _ _ v))) (λ v. simp v (λ e. impossible cc))))
     (λ u. simp u (λ e. impossible cc))))
+
+pub headed-checked : (body : List ℕ) → getD body 0 0 / 64 ≡ 2 → headed body ≡ Checked (length body)
+unfolding headed
+headed-checked body top = rw (eq-eqb _ _ top)
 
 pub headed-decided : (body : List ℕ) → decided (headed body) ≡ true
 unfolding headed

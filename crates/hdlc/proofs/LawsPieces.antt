@@ -6,7 +6,7 @@ use Prim.Native.Nat.{ℕ}
 use Rattle.octets.specs.Runs.{emitted}
 use Rattle.octets.proofs.LawsRuns.{each-append, emitted-append}
 use Rattle.hdlc.specs.Kinds.{isSkipped}
-use Rattle.hdlc.specs.Wire.{kept, meant, pends, gathered, cutEscape}
+use Rattle.hdlc.specs.Wire.{kept, meant, pends, gathered, cutEscape, grown, unfinished}
 
 kept-append : (p q : List ℕ) → kept (p ++ q) ≡ kept p ++ kept q
 unfolding kept
@@ -19,6 +19,11 @@ gathered-append p q = ap (emitted meant pends false) (kept-append p q) ∙ emitt
 pub cut-append : (p q : List ℕ) → cutEscape (p ++ q) ≡ foldl pends (cutEscape p) (kept q)
 unfolding cutEscape
 cut-append p q = ap (foldl pends false) (kept-append p q) ∙ foldl-append pends false (kept p) (kept q)
+
+-- the piece that is open after octets and more octets
+pub unfinished-append : (p xs ys : List ℕ) → unfinished p (xs ++ ys) ≡ unfinished (unfinished p xs) ys
+unfolding unfinished
+unfinished-append p xs ys = foldl-append grown p xs ys
 
 -- a piece q that stands for the octets of p and then those of xs, and ends in an escape or not
 pub record Adds (p q xs : List ℕ) (e : Bool) : Type 0 where

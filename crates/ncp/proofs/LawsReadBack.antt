@@ -5,7 +5,6 @@ use mathlib.Core.Path.{_≡_, sym, ap, _∙_}
 use mathlib.Core.List.{List, [], _∷_, append-assoc}
 use Prim.Native.Nat.{ℕ, _/_, _≤_}
 use native.Mathlib.Omega.{arith}
-use borrow.Author.Tests.{eq-eqb}
 use lib.ListN.{length, replicate, length-replicate}
 use lib.Seq.{take-append-seam}
 use Rattle.octets.specs.Octets.{Octets}
@@ -13,9 +12,10 @@ use Rattle.hdlc.specs.declared.reader.Fate.{Fate}
 use Rattle.hdlc.specs.declared.reader.Fate.the-variants.{Checked}
 use Rattle.hdlc.specs.declared.reader.Reader.{Reader}
 use Rattle.hdlc.specs.Frame.{checked, frame}
-use Rattle.hdlc.specs.Reading.{headed, mostGathered, outcome}
+use Rattle.hdlc.specs.Reading.{mostGathered, outcome}
 use Rattle.hdlc.specs.Wire.{bodyIn}
 use Rattle.hdlc.proofs.reader.Fate.{the-type as fate-type}
+use Rattle.hdlc.proofs.LawsFates.{headed-checked}
 use Rattle.hdlc.proofs.LawsFrame.{unframed-octets}
 use Rattle.hdlc.proofs.LawsReading.{tag-unchecked}
 use Rattle.hdlc.proofs.ReaderRules.{fresh-rules}
@@ -44,12 +44,8 @@ module _ (xs : List ℕ) {f : Fate} {read : ℕ} {r : Reader} {a : List ℕ} (is
 
 -- the frame of a reply with the top bits 10 is read back as the reply
 module _ (reply : List ℕ) (size : Bounded reply) (top : headerOf reply / 64 ≡ 2) where
-  is-checked : headed reply ≡ Checked (length reply)
-  unfolding headed
-  is-checked = rw (eq-eqb _ _ top)
-
   pub frame-back : Octets (frame reply) → bodyBack (frame reply) ≡ reply
   unfolding bodyBack checked
   frame-back o =
-      rw (round-trip reply (omega arith) (unframed-octets reply o) (replicate mostGathered 0) cleared-room, is-checked, append-assoc)
+      rw (round-trip reply (omega arith) (unframed-octets reply o) (replicate mostGathered 0) cleared-room, headed-checked reply top, append-assoc)
       (take-append-seam reply _)

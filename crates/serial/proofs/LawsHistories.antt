@@ -1,7 +1,7 @@
 -- A history's calls, one by one and all: what stands between two calls, told by the octets read so far. Assumes nothing.
 use mathlib.Core.Path.{_≡_, refl, sym, ap, ap₂, _∙_}
 use mathlib.Core.Bool.{true, false}
-use mathlib.Core.List.{List, [], _∷_, _++_, map, map-append, foldl, foldl-append}
+use mathlib.Core.List.{List, [], _∷_, _++_, map, map-append, foldl}
 use Prim.Native.Nat.{ℕ, _≤_}
 use native.Mathlib.Omega.{arith}
 use borrow.Author.Tests.{ltb-false}
@@ -17,11 +17,12 @@ use Rattle.hdlc.specs.States.{closed}
 use Rattle.hdlc.specs.Wire.{told as toldOf, verdicts, finished, ended, grown, unfinished, call, callReads}
 use Rattle.hdlc.proofs.ClosedForm.{call-closed, same-room}
 use Rattle.hdlc.proofs.LawsCalls.{After, after-call, call-tells}
+use Rattle.hdlc.proofs.LawsPieces.{unfinished-append}
 use Rattle.hdlc.proofs.ReaderRules.{rules-told, run-rules}
 use Rattle.device.specs.declared.state.Device.{Device}
 use Rattle.device.specs.Rules.{rules}
-use Rattle.engine.specs.Merged.{deviceStep, deviceAfter, repliesTo}
-use Rattle.engine.proofs.LawsRepliesInOrder.{replies-append}
+use Rattle.engine.specs.Merged.{deviceAfter, repliesTo}
+use Rattle.engine.proofs.LawsRepliesInOrder.{device-append, replies-append}
 use Rattle.engine.proofs.RulesKept.{bodies-keep}
 use Rattle.serial.specs.declared.call.Answer.{Answer}
 use Rattle.serial.specs.declared.call.Answer.the-variants.{SmallAssembly, SmallOutput}
@@ -37,14 +38,6 @@ checked-append p xs ys =
     ap (λ ps. checkedOf (verdicts ps)) (emitted-append ended grown p xs ys)
     ∙ ap checkedOf (each-append _ (finished p xs) (finished (unfinished p xs) ys))
     ∙ each-append _ (verdicts (finished p xs)) (verdicts (finished (unfinished p xs) ys))
-
-pub unfinished-append : (p xs ys : List ℕ) → unfinished p (xs ++ ys) ≡ unfinished (unfinished p xs) ys
-unfolding unfinished
-unfinished-append p xs ys = foldl-append grown p xs ys
-
-pub device-append : (d : Device) (bs cs : List (List ℕ)) → deviceAfter d (bs ++ cs) ≡ deviceAfter (deviceAfter d bs) cs
-unfolding deviceAfter
-device-append d bs cs = foldl-append deviceStep d bs cs
 
 pub frames-append : (d : Device) (bs cs : List (List ℕ))
     → map frame (repliesTo d (bs ++ cs)) ≡ map frame (repliesTo d bs) ++ map frame (repliesTo (deviceAfter d bs) cs)

@@ -5,19 +5,19 @@
 use mathlib.Core.Path.{_≡_, refl, sym, ap, subst, _∙_}
 use mathlib.Core.List.{List, [], _∷_, _++_, append-assoc, append-nil, map}
 use Prim.Native.Nat.{ℕ, _/_}
-use borrow.Author.Tests.{eq-eqb}
 use lib.Seq.{take-length}
 use Rattle.octets.specs.Octets.{Octets}
 use Rattle.hdlc.specs.Kinds.{isFlag}
 use Rattle.hdlc.specs.Frame.{Body, stuffed, checked, frame}
-use Rattle.hdlc.specs.Reading.{headed}
 use Rattle.hdlc.specs.Wire.{kept, gathered, cutEscape, verdict, ended, grown, finished, unfinished, told, verdicts}
+use Rattle.hdlc.proofs.LawsFates.{headed-checked}
+use Rattle.hdlc.proofs.LawsPieces.{unfinished-append}
 use Rattle.hdlc.proofs.RoundTrip.{frame-told, frame-leaves}
 use Rattle.command.specs.Reply.{headerOf}
 use Rattle.engine.specs.Engine.{engine}
 use Rattle.engine.specs.Merged.{deviceAfter, repliesTo}
 use Rattle.serial.specs.Histories.{Setup, deviceFrom, History, repliesIn, laid, checkedOf, checkedIn, bodies}
-use Rattle.serial.proofs.LawsHistories.{checked-append, unfinished-append, frames-append}
+use Rattle.serial.proofs.LawsHistories.{checked-append, frames-append}
 use Rattle.serial.proofs.Faithful.{faithful}
 
 -- b is checked and answered after some bodies and before others
@@ -48,8 +48,8 @@ flag-parts xs ys =
 module _ (b : List ℕ) (size : Body b) (octets : Octets b) (top : headerOf b / 64 ≡ 2) where
   -- a frame is one checked body, and leaves nothing open
   frame-checked : checkedIn [] (frame b) ≡ b ∷ []
-  unfolding checkedIn checkedOf headed told
-  frame-checked = ap checkedOf (frame-told b size octets) ∙ rw (eq-eqb (headerOf b / 64) 2 top) (ap (λ l. l ∷ []) (take-length b))
+  unfolding checkedIn checkedOf told
+  frame-checked = ap checkedOf (frame-told b size octets) ∙ rw (headed-checked b top) (ap (λ l. l ∷ []) (take-length b))
 
   frame-then : (ys : List ℕ) → checkedIn [] (frame b ++ ys) ≡ b ∷ checkedIn [] ys
   frame-then ys = checked-append [] (frame b) ys ∙ rw (frame-checked, frame-leaves b size octets)
