@@ -1,7 +1,4 @@
-pub mod LawsVerdict
-pub mod LawsNumbers
-pub mod LawsItems
-pub mod StackAndInterface
-pub mod LawsKept
-pub mod LawsReplies
-pub mod Scopes
+pub mod LawsContent
+pub mod LawsJudged
+pub mod LawsDecisions
+pub mod EffectsByOctets

@@ -1,5 +1,2 @@
-pub mod View
-pub mod Verdict
-pub mod Perform
-pub mod Value
-pub mod Reply
+pub mod Decide
+pub mod Effects

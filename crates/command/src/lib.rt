@@ -1,19 +1,5 @@
-// A command on one link: what a body asks, what that comes to, and the octets of its reply.
-mod items;
-mod perform;
-mod reply;
-mod set;
-mod value;
-mod verdict;
-mod view;
+// A body on one link: what it asks, what that comes to, and the octets of its reply; steps 2 to 9 of 01, Commands.
+mod decision;
 
-pub use perform::Outcome;
-pub use perform::Performed;
-pub use perform::perform_on;
-pub use reply::write_reply;
-pub use reply::write_status;
-pub use set::Value;
-pub use verdict::Verdict;
-pub use verdict::verdict_of;
-pub use view::Effect;
-pub use view::View;
+pub use decision::Decided;
+pub use decision::decide;

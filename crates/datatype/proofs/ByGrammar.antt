@@ -6,10 +6,10 @@ use mathlib.Core.Path.{_≡_, refl}
 use Prim.Native.Nat.{ℕ}
 use lib.Dec.{ltb}
 use lib.ListN.{length}
-use Rattle.datatype.specs.Grammar.{Items, TypeString}
-use Rattle.datatype.specs.Parse.{Parsed, malformed, parsed, typeOf}
+use Rattle.typestring.specs.Grammar.{Items, TypeString}
+use Rattle.typestring.specs.Parse.{Parsed, malformed, parsed, typeOf}
+use Rattle.typestring.proofs.Grammatical.{sound, complete}
 use Rattle.datatype.specs.Answers.{mostPayload, refused, listed, payloadReads, result}
-use Rattle.datatype.proofs.Grammatical.{sound, complete}
 
 pub by-tree : (types payload : List ℕ) (room : ℕ) (t : Items) → TypeString types t
     → result (typeOf types) payload room ≡ cond (ltb mostPayload (length payload)) (refused 16) (listed room (payloadReads t payload))

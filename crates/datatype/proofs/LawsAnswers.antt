@@ -8,17 +8,18 @@ use native.Mathlib.Nat.{zero-add}
 use borrow.Author.Tests.{lt-ltb, le-ltb}
 use lib.ListN.{length, drop}
 use lib.Seq.{sets, sets-eq}
+use Rattle.typestring.specs.Grammar.{Items}
+use Rattle.typestring.specs.Parse.{Parsed, malformed, parsed, typeOf, isType}
+use Rattle.typestring.specs.Calls.{PartFrom}
+use Rattle.typestring.proofs.LawsGrammar.{end-shut}
+use Rattle.typestring.proofs.Grammatical.{accepted, complete}
 use Rattle.datatype.specs.declared.list.Read.{Read}
 use Rattle.datatype.specs.declared.list.Read.the-variants as read
 use Rattle.datatype.specs.declared.read.Answer.{Answer}
 use Rattle.datatype.specs.declared.read.Answer.the-variants as answer
-use Rattle.datatype.specs.Grammar.{Items}
-use Rattle.datatype.specs.Parse.{Parsed, malformed, parsed, typeOf, isType}
 use Rattle.datatype.specs.Reading.{Leaf, numbers, upto, partReads}
 use Rattle.datatype.specs.Answers.{refused, listed, payloadReads, result, answerTo, told, tells, filled}
-use Rattle.datatype.specs.Calls.{PartFrom, Room, Did, fillingTo, ReadsPart}
-use Rattle.datatype.proofs.LawsGrammar.{end-shut}
-use Rattle.datatype.proofs.Grammatical.{accepted, complete}
+use Rattle.datatype.specs.Calls.{Room, Did, fillingTo, ReadsPart}
 use Rattle.datatype.proofs.LawsTook.{part-took}
 use Rattle.datatype.proofs.LawsReading.{filling-fit}
 use Rattle.datatype.proofs.LawsDid.{did-misfit, did-upto, did-filling, length-numbers}

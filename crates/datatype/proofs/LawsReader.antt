@@ -11,24 +11,25 @@ use native.Mathlib.Nat.{sub-zero}
 use lib.ListN.{length, getD, take, drop}
 use lib.Seq.{length-take-le, drop-drop}
 use Rattle.octets.proofs.LawsLists.{front}
-use Rattle.datatype.specs.declared.kind.Kind.{Kind}
-use Rattle.datatype.specs.declared.kind.Kind.the-variants as kind
-use Rattle.datatype.specs.declared.kind.Value.{Value}
+use Rattle.typestring.specs.declared.kind.Kind.{Kind}
+use Rattle.typestring.specs.declared.kind.Kind.the-variants as kind
+use Rattle.typestring.specs.declared.kind.Value.{Value}
+use Rattle.typestring.specs.Kinds.{kindOf}
+use Rattle.typestring.specs.Grammar.{Item, Items, value, rest, struct, array, printItem}
+use Rattle.typestring.specs.Parse.{closed}
+use Rattle.typestring.specs.Calls.{PartFrom, ItemFrom, EndsItem}
+use Rattle.typestring.proofs.kind.Kind.{the-type as kind-type}
+use Rattle.typestring.proofs.LawsPlaces.{kindIs, item-first, item-place, part-ended, part-item, struct-inner, array-inner, is-value, is-struct, is-array}
 use Rattle.datatype.specs.declared.leaf.Span.{Span}
 use Rattle.datatype.specs.declared.leaf.Span.the-variants as span
 use Rattle.datatype.specs.declared.list.Read.{Read}
 use Rattle.datatype.specs.declared.list.Read.the-variants as read
-use Rattle.datatype.specs.Kinds.{kindOf}
-use Rattle.datatype.specs.Grammar.{Item, Items, value, rest, struct, array, printItem}
-use Rattle.datatype.specs.Parse.{closed}
 use Rattle.datatype.specs.Leaves.{spanOf, countedAt, restOf}
 use Rattle.datatype.specs.Reading.{Leaf, upto, andThen, leafReads, contents, itemReads, partReads}
-use Rattle.datatype.specs.Calls.{PartFrom, ItemFrom, Room, Small, Did, fillingTo, ReadsPart, ReadsItem, EndsItem}
-use Rattle.datatype.proofs.kind.Kind.{the-type as kind-type}
+use Rattle.datatype.specs.Calls.{Room, Small, Did, fillingTo, ReadsPart, ReadsItem}
 use Rattle.datatype.proofs.LawsLeaves.{span-fits, counted-fits}
 use Rattle.datatype.proofs.LawsTook.{Took, element-took, item-took}
 use Rattle.datatype.proofs.LawsReading.{elements-more, elements-done}
-use Rattle.datatype.proofs.LawsPlaces.{kindIs, item-first, item-place, part-ended, part-item, struct-inner, array-inner, is-value, is-struct, is-array}
 use Rattle.datatype.proofs.LawsDid.{Finishes, did-upto, did-none, did-then, did-not, did-filling}
 
 -- ---- an item by the kind of its letter

@@ -9,11 +9,11 @@ use borrow.Author.Tests.{ltb-false}
 use lib.Dec.{ltb}
 use lib.ListN.{length}
 use Rattle.octets.proofs.LawsTests.{by-test}
-use Rattle.datatype.specs.Grammar.{Items, PartRules}
-use Rattle.datatype.specs.Parse.{Parsed, malformed, parsed, typeOf}
+use Rattle.typestring.specs.Grammar.{Items, PartRules}
+use Rattle.typestring.specs.Parse.{Parsed, malformed, parsed, typeOf}
+use Rattle.typestring.proofs.Grammatical.{sound}
 use Rattle.datatype.specs.Reading.{Leaf, InOrder, Reading, misfit, upto, partReads}
 use Rattle.datatype.specs.Answers.{mostPayload, refused, leaves, listed, payloadReads, result}
-use Rattle.datatype.proofs.Grammatical.{sound}
 use Rattle.datatype.proofs.LawsReading.{filling-fit}
 use Rattle.datatype.proofs.LawsTook.{part-took}
 

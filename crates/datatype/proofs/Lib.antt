@@ -1,15 +1,8 @@
-pub mod LawsKinds
-pub mod LawsGrammar
-pub mod LawsParse
-pub mod LawsCheck
-pub mod LawsPlaces
-pub mod LawsBrackets
 pub mod LawsLeaves
 pub mod LawsReading
 pub mod LawsTook
 pub mod LawsDid
 pub mod LawsReader
-pub mod Grammatical
 pub mod LawsAnswers
 pub mod NoEmptyElement
 pub mod ByGrammar

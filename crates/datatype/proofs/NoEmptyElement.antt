@@ -6,7 +6,7 @@ use mathlib.Core.Path.{_≡_}
 use Prim.Native.Nat.{ℕ, _≤_, _<_}
 use native.Mathlib.Omega.{arith}
 use lib.ListN.{length}
-use Rattle.datatype.specs.Grammar.{Items, Some, PartRules}
+use Rattle.typestring.specs.Grammar.{Items, Some, PartRules}
 use Rattle.datatype.specs.Reading.{Leaf, upto, partReads}
 use Rattle.datatype.proofs.LawsTook.{element-took}
 

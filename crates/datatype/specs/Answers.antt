@@ -4,10 +4,10 @@ use mathlib.Core.List.{List, _++_}
 use Prim.Native.Nat.{ℕ, _*_}
 use lib.Dec.{ltb}
 use lib.ListN.{length, drop}
+use Rattle.typestring.specs.Grammar.{Items}
+use Rattle.typestring.specs.Parse.{Parsed, malformed, parsed, typeOf}
 use Rattle.datatype.specs.declared.read.Answer.{Answer}
 use Rattle.datatype.specs.declared.read.Answer.the-variants.{Leaves, Malformed, Misfit, ShortList}
-use Rattle.datatype.specs.Grammar.{Items}
-use Rattle.datatype.specs.Parse.{Parsed, malformed, parsed, typeOf}
 use Rattle.datatype.specs.Reading.{Leaf, numbers, Reading, misfit, upto, filling, partReads}
 
 -- "a payload at most 1,300 octets"

@@ -10,8 +10,8 @@ use Rattle.octets.specs.Finding.{before}
 use Rattle.packed.specs.Packed.{packedAt}
 use Rattle.packed.specs.declared.Packed.{Packed}
 use Rattle.packed.specs.declared.Packed.the-variants as packed
-use Rattle.datatype.specs.declared.kind.Value.{Value}
-use Rattle.datatype.specs.declared.kind.Value.the-variants as value
+use Rattle.typestring.specs.declared.kind.Value.{Value}
+use Rattle.typestring.specs.declared.kind.Value.the-variants as value
 use Rattle.datatype.specs.declared.leaf.Span.{Span}
 use Rattle.datatype.specs.declared.leaf.Span.the-variants.{At, Misfit}
 

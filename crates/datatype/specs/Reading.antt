@@ -5,9 +5,9 @@ use Prim.Native.Nat.{ℕ, zero, suc, _+_, _-_, _≤_}
 use lib.Dec.{eqb, ltb}
 use lib.ListN.{length, take}
 use Rattle.octets.specs.Runs.{each}
+use Rattle.typestring.specs.Grammar.{Item, Items, value, rest, struct, array, end, more}
 use Rattle.datatype.specs.declared.leaf.Span.{Span}
 use Rattle.datatype.specs.declared.leaf.Span.the-variants.{At, Misfit}
-use Rattle.datatype.specs.Grammar.{Item, Items, value, rest, struct, array, end, more}
 use Rattle.datatype.specs.Leaves.{spanOf, countedAt, restOf}
 
 -- "three a leaf: ASCII letter code, start in the payload, length"

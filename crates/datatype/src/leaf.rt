@@ -1,9 +1,9 @@
 // Where one value stands in a payload. `part` is the payload up to the end of the part that is read.
-use crate::kind::Value;
 use octets::find_octet;
 use octets::read_le;
 use packed::Packed;
 use packed::read_packed;
+use typestring::Value;
 ghost use mathlib.Core.Path.{_≡_};
 ghost use Prim.Native.Nat.{_≤_};
 ghost use lib.ListN.{length, drop};

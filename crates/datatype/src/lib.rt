@@ -1,7 +1,4 @@
-// Spinel type strings (01, Type strings): which are well-formed, and where the values of a payload stand by one.
-mod brackets;
-mod check;
-mod kind;
+// Where the values of a payload stand by a type string (01, Type strings).
 mod leaf;
 mod list;
 mod read;

@@ -3,7 +3,7 @@ use crate::leaf::Span;
 ghost use mathlib.Core.Path.{_≡_};
 ghost use Prim.Native.Nat.{_+_, _≤_};
 ghost use lib.ListN.{set};
-ghost use Rattle.datatype.specs.Grammar.{mostOctets};
+ghost use Rattle.typestring.specs.Grammar.{mostOctets};
 ghost use Rattle.datatype.specs.Answers.{mostPayload};
 ghost use Rattle.datatype.specs.Reading.{leafReads};
 ghost use Rattle.datatype.specs.Calls.{Small, Did};

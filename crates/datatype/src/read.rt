@@ -1,21 +1,22 @@
 // Reading a payload by a type string that is well-formed.
-use crate::brackets::item_end;
-use crate::check::MOST_OPEN;
-use crate::check::closed;
-use crate::check::is_type;
-use crate::kind::Kind;
-use crate::kind::kind_of;
 use crate::leaf::Span;
 use crate::leaf::counted_at;
 use crate::leaf::rest_of;
 use crate::leaf::span_of;
 use crate::list::Read;
 use crate::list::put_leaf;
+use typestring::Kind;
+use typestring::MOST_OPEN;
+use typestring::closed;
+use typestring::is_type;
+use typestring::item_end;
+use typestring::kind_of;
 ghost use mathlib.Core.Path.{_≡_};
 ghost use lib.ListN.{drop};
-ghost use Rattle.datatype.specs.Grammar.{Item, Items};
+ghost use Rattle.typestring.specs.Grammar.{Item, Items};
+ghost use Rattle.typestring.specs.Calls.{PartFrom, ItemFrom};
 ghost use Rattle.datatype.specs.Answers.{told, tells, filled, answerTo};
-ghost use Rattle.datatype.specs.Calls.{PartFrom, ItemFrom, Room, ReadsPart, ReadsItem, fillingTo};
+ghost use Rattle.datatype.specs.Calls.{Room, ReadsPart, ReadsItem, fillingTo};
 
 const MOST_PAYLOAD: usize = 1300;
 

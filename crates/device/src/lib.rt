@@ -1,9 +1,10 @@
-// The state of the box: what setup makes, what the rules allow, what a link holds.
+// The state of the box: what setup makes, what the rules allow, what a link holds and what it sees of the rest.
 pub mod ports;
 mod rules;
 mod settings;
 mod state;
 pub mod text;
+mod view;
 
 pub use rules::stack_keeps;
 pub use settings::Answer;
@@ -14,3 +15,5 @@ pub use state::Held;
 pub use state::Link;
 pub use state::Settings;
 pub use state::Text;
+pub use view::Effect;
+pub use view::View;

@@ -1,5 +1,3 @@
-pub mod LawsJudged
-pub mod EffectsByOctets
 pub mod Separation
 pub mod LawsRepliesInOrder
 pub mod RulesKept

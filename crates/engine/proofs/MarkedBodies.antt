@@ -9,12 +9,12 @@ use Rattle.property.specs.Rows.{rows, lookupIn, lookup, allows}
 use Rattle.property.specs.Numbers.{numbers, within}
 use Rattle.device.specs.State.{goodText, isText, portsIn, holds, distinct, defaults, fresh}
 use Rattle.device.specs.Setup.{isSetup, refusal, setupFor}
-use Rattle.command.specs.View.{powerAfter}
-use Rattle.command.specs.Verdict.{commandOf, byRow, byProperty, byCommand, verdict}
-use Rattle.command.specs.Perform.{getWith, valueIn, conflicts, numberTo, setNumber, powerTo, setPower, setName, setPorts, setKind, insertPort, without, removePort, perform}
-use Rattle.command.specs.Value.{fixedValue, numberValue, valueOf}
-use Rattle.engine.specs.Decide.{replying, concluded, reached, judgedBy, judged, reported, decisionOf, decide}
-use Rattle.command.specs.Reply.{statusReply, replyCommand, content, replied}
+use Rattle.device.specs.View.{powerAfter}
+use Rattle.request.specs.Verdict.{commandOf, byRow, byProperty, byCommand, verdict}
+use Rattle.method.specs.Perform.{getWith, valueIn, conflicts, numberTo, setNumber, powerTo, setPower, setName, setPorts, setKind, insertPort, without, removePort, perform}
+use Rattle.reply.specs.Value.{fixedValue, numberValue, valueOf}
+use Rattle.reply.specs.Reply.{statusReply, replyCommand, content, replied}
+use Rattle.command.specs.Decide.{replying, concluded, reached, judgedBy, judged, reported, decisionOf, decide}
 use Rattle.engine.specs.Engine.{linkOf, isSetUp, affect, settled, engine}
 use Rattle.engine.specs.Merged.{repliesTo}
 use Rattle.engine.specs.Marked.{freshBox, marked}

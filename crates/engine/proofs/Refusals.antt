@@ -8,13 +8,14 @@ use lib.ListN.{set}
 use Rattle.device.specs.Rules.{settingsRule, linkRule}
 use Rattle.device.specs.declared.state.Link.{Link}
 use Rattle.device.specs.declared.state.Device.{Device}
-use Rattle.command.specs.declared.view.View.{View}
-use Rattle.command.specs.declared.view.Effect.{Effect}
-use Rattle.command.specs.View.{viewOf}
-use Rattle.engine.specs.Decide.{withStatus, stopped, noop, success, judged, reported, decisionOf, decide}
-use Rattle.command.specs.Reply.{headerOf, statusReply}
+use Rattle.device.specs.declared.view.View.{View}
+use Rattle.device.specs.declared.view.Effect.{Effect}
+use Rattle.device.specs.View.{viewOf}
+use Rattle.request.specs.Verdict.{headerOf}
+use Rattle.reply.specs.Reply.{statusReply}
+use Rattle.command.specs.Decide.{withStatus, stopped, noop, success, judged, reported, decisionOf, decide}
+use Rattle.command.proofs.LawsJudged.{judged-sound}
 use Rattle.engine.specs.Engine.{linkOf, isSetUp, affect, settled, engine}
-use Rattle.engine.proofs.LawsJudged.{judged-sound}
 
 -- the box with one link's last status changed
 abbrev pub statusSet : Device → ℕ → ℕ → Device

@@ -2,30 +2,20 @@
 use mathlib.Core.Path.{_≡_}
 use mathlib.Core.Bool.{true}
 use mathlib.Core.List.{List}
-use Prim.Native.Nat.{ℕ, _≤_}
+use Prim.Native.Nat.{ℕ}
 use native.Mathlib.Omega.{arith}
 use borrow.Author.Tests.{ltb-true}
-use lib.ListN.{length}
 use Rattle.octets.proofs.LawsTests.{chosen}
 use Rattle.device.specs.Rules.{rules}
 use Rattle.device.specs.declared.state.Device.{Device}
 use Rattle.device.proofs.StateRules.{settings-of, link-at}
-use Rattle.command.specs.declared.view.View.{View}
-use Rattle.command.specs.View.{viewOf}
-use Rattle.engine.specs.Decide.{Judged, stopped, noop, reset, success, judged, reported, decisionOf, decide}
-use Rattle.command.specs.Reply.{headerOf, statusReply}
+use Rattle.device.specs.View.{viewOf}
+use Rattle.request.specs.Verdict.{headerOf}
+use Rattle.reply.specs.Reply.{statusReply}
+use Rattle.command.specs.Decide.{judged, decide}
+use Rattle.command.proofs.LawsJudged.{judged-sound}
+use Rattle.command.proofs.LawsDecisions.{Bounded, by-judged}
 use Rattle.engine.specs.Engine.{linkOf, isSetUp, Answer, settled, engine}
-use Rattle.engine.proofs.LawsJudged.{Sound, judged-sound}
-
-abbrev pub Bounded : List ℕ → Type 0
-Bounded reply = (3 ≤ length reply) × (length reply ≤ 61)
-
-by-judged : (v : View) (h : ℕ) (j : Judged) → Sound v j → Bounded (decisionOf v h j .reply)
-unfolding decisionOf reported statusReply
-by-judged v h (stopped s) t = (omega arith, omega arith)
-by-judged v h noop t = (omega arith, omega arith)
-by-judged v h reset t = (omega arith, omega arith)
-by-judged v h (success e l reply) t = (t .2, t .3)
 
 pub reply-bounds : (d : Device) (b : List ℕ) → rules d ≡ true → Bounded (engine d b .reply)
 unfolding engine settled decide isSetUp statusReply

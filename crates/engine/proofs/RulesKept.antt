@@ -1,50 +1,29 @@
 -- PROMISE: the engine keeps the rules of the state, body by body and over any list of bodies. Assumes nothing.
-use mathlib.Core.Path.{_≡_, refl, _∙_}
+use mathlib.Core.Path.{_≡_, _∙_}
 use mathlib.Core.Bool.{true}
 use mathlib.Core.List.{List, [], _∷_}
 use Prim.Native.Nat.{ℕ, _<_}
 use native.Mathlib.Omega.{arith}
 use borrow.Author.Tests.{eqb-true, eqb-false, leb-true, le-leb, ltb-true, lt-ltb, le-ltb}
-use lib.Dec.{eqb, leb}
+use lib.Dec.{eqb}
 use lib.ListN.{length, getD, set, length-set}
 use lib.Seq.{getD-set-same, getD-set-other}
 use Rattle.octets.proofs.LawsTests.{by-test, chosen, and-r}
 use Rattle.property.specs.Numbers.{powerState, within}
 use Rattle.device.specs.State.{noLink}
-use Rattle.device.specs.Rules.{sized, linkRule, linkKept, settingsRule, rules}
+use Rattle.device.specs.Rules.{linkRule, linkKept, rules}
 use Rattle.device.specs.declared.state.Link.{Link}
 use Rattle.device.specs.declared.state.Device.{Device}
 use Rattle.device.proofs.SetupKeepsRules.{fresh-keeps}
-use Rattle.device.proofs.StateRules.{LinkFacts, link-told, link-from, settings-of, power-of, four, few, kept, link-at, rules-from}
-use Rattle.command.specs.declared.view.View.{View}
-use Rattle.command.specs.declared.view.Effect.{Effect}
-use Rattle.command.specs.declared.view.Effect.the-variants.{None, Reset, Powered}
-use Rattle.command.specs.View.{viewOf}
-use Rattle.engine.specs.Decide.{withStatus, Judged, stopped, noop, reset, success, judged, reported, decisionOf, decide}
-use Rattle.command.specs.Reply.{headerOf}
+use Rattle.device.proofs.StateRules.{settings-of, power-of, four, few, kept, link-at, rules-from}
+use Rattle.device.specs.declared.view.Effect.{Effect}
+use Rattle.device.specs.declared.view.Effect.the-variants.{None, Reset, Powered}
+use Rattle.device.specs.View.{viewOf}
+use Rattle.command.specs.Effects.{isReset, isPower, effectOf}
+use Rattle.command.proofs.LawsDecisions.{decide-keeps}
 use Rattle.engine.specs.Engine.{linkOf, isSetUp, affect, engine}
-use Rattle.engine.specs.Merged.{deviceStep, deviceAfter, isReset, isPower, effectOf}
-use Rattle.engine.proofs.LawsJudged.{Sound, judged-sound}
+use Rattle.engine.specs.Merged.{deviceStep, deviceAfter}
 use Rattle.engine.proofs.Separation.{body-set-up, body-not-set-up}
-
--- ---- the link
-
-status-kept : (l : Link) (s : ℕ) → LinkFacts l → leb s 127 ≡ true → LinkFacts (withStatus l s)
-unfolding sized
-status-kept l s f h = record { sized = f .sized; status = h; range = f .range; stack = f .stack; name = f .name; ports = f .ports }
-
-link-by : (v : View) (h : ℕ) (j : Judged) → LinkFacts (v .link) → Sound v j → LinkFacts (decisionOf v h j .link)
-unfolding decisionOf reported
-link-by v h (stopped s) f t = status-kept (v .link) s f t
-link-by v h noop f t = status-kept (v .link) 0 f refl
-link-by v h reset f t = f
-link-by v h (success e l reply) f t = t .0
-
-pub decide-keeps : (v : View) (b : List ℕ) → settingsRule (v .settings) ≡ true → linkRule (v .link) ≡ true → linkRule (decide v b .link) ≡ true
-unfolding decide
-decide-keeps v b s t = link-from _ (link-by v (headerOf b) (judged v b) (link-told (v .link) t) (judged-sound v s t b))
-
--- ---- the box
 
 abbrev Sane : Effect → Type 0
 Sane None = Unit {0}

@@ -19,14 +19,15 @@ use Rattle.device.specs.Rules.{rules}
 use Rattle.device.specs.declared.state.Link.{Link}
 use Rattle.device.specs.declared.state.Device.{Device}
 use Rattle.device.proofs.StateRules.{four}
-use Rattle.command.specs.declared.view.View.{View}
-use Rattle.command.specs.declared.view.Effect.{Effect}
-use Rattle.command.specs.declared.view.Effect.the-variants.{None, Reset, Powered}
-use Rattle.command.specs.View.{viewOf}
-use Rattle.engine.specs.Decide.{decide}
+use Rattle.device.specs.declared.view.View.{View}
+use Rattle.device.specs.declared.view.Effect.{Effect}
+use Rattle.device.specs.declared.view.Effect.the-variants.{None, Reset, Powered}
+use Rattle.device.specs.View.{viewOf}
+use Rattle.command.specs.Decide.{decide}
+use Rattle.command.specs.Effects.{isReset, effectOf}
+use Rattle.command.proofs.EffectsByOctets.{decide-effect}
 use Rattle.engine.specs.Engine.{linkOf, isSetUp, affect, settled, engine}
-use Rattle.engine.specs.Merged.{deviceStep, deviceAfter, isReset, effectOf, whole, effectItem, itemOf, merged, isAnswered, repliesOn, moved, viewStep, viewAfter, replyTo, itemReplies, viewReplies}
-use Rattle.engine.proofs.EffectsByOctets.{decide-effect}
+use Rattle.engine.specs.Merged.{deviceStep, deviceAfter, whole, effectItem, itemOf, merged, isAnswered, repliesOn, moved, viewStep, viewAfter, replyTo, itemReplies, viewReplies}
 
 -- ---- one body
 

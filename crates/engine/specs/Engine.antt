@@ -8,11 +8,12 @@ use Rattle.device.specs.State.{fresh}
 use Rattle.device.specs.declared.state.Link.{Link}
 use Rattle.device.specs.declared.state.Settings.{Settings}
 use Rattle.device.specs.declared.state.Device.{Device}
-use Rattle.command.specs.declared.view.Effect.{Effect}
-use Rattle.command.specs.declared.view.Effect.the-variants.{None, Reset, Powered}
-use Rattle.command.specs.View.{viewOf}
-use Rattle.engine.specs.Decide.{Decision, decide}
-use Rattle.command.specs.Reply.{headerOf, statusReply}
+use Rattle.device.specs.declared.view.Effect.{Effect}
+use Rattle.device.specs.declared.view.Effect.the-variants.{None, Reset, Powered}
+use Rattle.device.specs.View.{viewOf}
+use Rattle.request.specs.Verdict.{headerOf}
+use Rattle.reply.specs.Reply.{statusReply}
+use Rattle.command.specs.Decide.{Decision, decide}
 
 -- "two bits 10, two bits link, four bits transaction"
 unfoldable pub linkOf : List ℕ → ℕ

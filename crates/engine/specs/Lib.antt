@@ -1,4 +1,3 @@
-pub mod Decide
 pub mod Engine
 pub mod Merged
 pub mod Marked

@@ -2,18 +2,19 @@
 use Prim.Native.Nat.{ℕ}
 use mathlib.Core.Bool.{Bool, cond, not, _&&_}
 use mathlib.Core.List.{List, [], _∷_, _++_, foldl}
-use lib.Dec.{eqb, leb}
-use lib.ListN.{length, getD}
+use lib.Dec.{eqb}
 use Rattle.octets.specs.Runs.{each, emitted}
 use Rattle.device.specs.State.{freshLink}
 use Rattle.device.specs.declared.state.Settings.{Settings}
 use Rattle.device.specs.declared.state.Device.{Device}
 use Rattle.device.specs.declared.state.Link.{Link}
-use Rattle.command.specs.declared.view.View.{View}
-use Rattle.command.specs.declared.view.Effect.{Effect}
-use Rattle.command.specs.declared.view.Effect.the-variants.{None, Reset, Powered}
-use Rattle.engine.specs.Decide.{decide}
-use Rattle.command.specs.Reply.{headerOf, statusReply}
+use Rattle.device.specs.declared.view.View.{View}
+use Rattle.device.specs.declared.view.Effect.{Effect}
+use Rattle.device.specs.declared.view.Effect.the-variants.{None, Reset, Powered}
+use Rattle.request.specs.Verdict.{headerOf}
+use Rattle.reply.specs.Reply.{statusReply}
+use Rattle.command.specs.Decide.{decide}
+use Rattle.command.specs.Effects.{isReset, effectOf}
 use Rattle.engine.specs.Engine.{linkOf, isSetUp, engine}
 
 -- ---- bodies one after the other
@@ -27,20 +28,6 @@ deviceAfter d bs = foldl deviceStep d bs
 -- one reply to each body, in order
 unfoldable pub repliesTo : Device → List (List ℕ) → List (List ℕ)
 repliesTo d bs = emitted (λ e b. engine e b .reply ∷ []) deviceStep d bs
-
--- ---- effects, told by the octets
-
--- "A reset is a checked body, on a link set up, whose second octet is 01"
-unfoldable pub isReset : List ℕ → Bool
-isReset b = eqb (getD b 1 0) 1
-
--- "a checked body .. of four octets, the last three 03, 07 and 0 to 4"
-unfoldable pub isPower : List ℕ → Bool
-isPower b = eqb (length b) 4 && (eqb (getD b 1 0) 3 && (eqb (getD b 2 0) 7 && leb (getD b 3 0) 4))
-
--- of a body on a link set up
-unfoldable pub effectOf : List ℕ → Effect
-effectOf b = cond (isReset b) Reset (cond (isPower b) (Powered (getD b 3 0)) None)
 
 -- ---- a link's merged sequence
 

@@ -1,18 +1,18 @@
 // One body on the box (01, Commands).
-use crate::decide::decide;
-use command::Effect;
-use command::View;
-use command::write_status;
+use command::decide;
 use device::Device;
+use device::Effect;
 use device::Link;
+use device::View;
 use property::status;
+use reply::write_status;
 ghost use mathlib.Core.Bool.{true};
 ghost use mathlib.Core.Path.{_≡_};
 ghost use Prim.Native.Nat.{_≤_, _<_, _/_};
 ghost use lib.ListN.{length};
 ghost use Rattle.octets.specs.Writing.{Wrote};
 ghost use Rattle.device.specs.Rules.{rules};
-ghost use Rattle.command.specs.Reply.{headerOf};
+ghost use Rattle.request.specs.Verdict.{headerOf};
 ghost use Rattle.engine.specs.Engine.{affect, engine};
 
 // The box after a body, and how many octets its reply has, from the front of the space lent for it.

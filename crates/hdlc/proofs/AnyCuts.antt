@@ -10,8 +10,8 @@ use lib.Seq.{take-length}
 use Rattle.octets.specs.Runs.{each}
 use Rattle.octets.proofs.LawsRuns.{each-append, emitted-append}
 use Rattle.octets.proofs.LawsTests.{by-test}
+use Rattle.frame.specs.Frame.{stuffed}
 use Rattle.hdlc.specs.declared.reader.Reader.{Reader}
-use Rattle.hdlc.specs.Frame.{stuffed}
 use Rattle.hdlc.specs.Reading.{decided, mostGathered, fresh, Held, held, run}
 use Rattle.hdlc.specs.Rules.{Rules}
 use Rattle.hdlc.specs.Wire.{ended, grown, finished, unfinished, verdicts, call, callReads, wire}

@@ -9,8 +9,8 @@ use native.Mathlib.Omega.{arith}
 use lib.ListN.{length, take, drop, length-append, take-append-drop}
 use lib.Seq.{length-take-le}
 use Rattle.octets.proofs.LawsTests.{by-test}
+use Rattle.frame.specs.Frame.{stuffed}
 use Rattle.hdlc.specs.declared.reader.Reader.{Reader}
-use Rattle.hdlc.specs.Frame.{stuffed}
 use Rattle.hdlc.specs.Reading.{decided, mostGathered, gathering, overlong, held, later, run}
 use Rattle.hdlc.specs.Rules.{Rules}
 use Rattle.hdlc.specs.Wire.{gathered, cutEscape, verdictAt, grown, call}

@@ -11,8 +11,8 @@ use lib.Dec.{ltb, eqb}
 use lib.ListN.{length}
 use Rattle.octets.proofs.LawsRuns.{each-append}
 use Rattle.octets.proofs.LawsTests.{by-test}
+use Rattle.frame.specs.Kinds.{isFlag}
 use Rattle.hdlc.specs.declared.reader.Fate.the-variants.{Unfinished}
-use Rattle.hdlc.specs.Kinds.{isFlag}
 use Rattle.hdlc.specs.Reading.{decided, judged, mostGathered, fresh, Held, held, run}
 use Rattle.hdlc.specs.Wire.{kept, gathered, cutEscape, verdict, ended, grown, finished, unfinished, told, verdicts, Call, verdictAt, call, callReads}
 use Rattle.hdlc.specs.States.{readerAfter, over, holding, closed}

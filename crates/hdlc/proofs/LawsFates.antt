@@ -9,8 +9,8 @@ use lib.Dec.{ltb, eqb}
 use lib.ListN.{length, getD, drop, take-append-drop}
 use lib.Seq.{length-take-le, take-length, take-append-seam, getD-take}
 use Rattle.octets.proofs.LawsTests.{by-test, impossible}
+use Rattle.frame.specs.Fcs.{fcs}
 use Rattle.hdlc.specs.declared.reader.Fate.the-variants.{Checked, BadHeader}
-use Rattle.hdlc.specs.Fcs.{fcs}
 use Rattle.hdlc.specs.Reading.{decided, bodyOf, checkOf, headed, judged}
 use Rattle.hdlc.specs.Wire.{told}
 

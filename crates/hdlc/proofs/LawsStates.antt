@@ -11,8 +11,8 @@ use lib.Bits.{bitXor}
 use lib.ListN.{length, take, drop, set, length-append, length-drop, length-take}
 use lib.Seq.{take-all, take-append-le, take-append-seam, set-at, drop-cons}
 use Rattle.octets.proofs.LawsTests.{by-test}
+use Rattle.frame.specs.Kinds.{isFlag, isEscape, isSkipped}
 use Rattle.hdlc.specs.declared.reader.Fate.the-variants.{Unfinished, CutEscape}
-use Rattle.hdlc.specs.Kinds.{isFlag, isEscape, isSkipped}
 use Rattle.hdlc.specs.Reading.{decided, judged, mostGathered, gathering, overlong, fresh, held, gather, content, after, flagFate, fateAt}
 use Rattle.hdlc.specs.Wire.{kept, meant, pends, gathered, cutEscape, verdict, grown, verdictAt}
 use Rattle.hdlc.specs.States.{readerAfter, over, holding}

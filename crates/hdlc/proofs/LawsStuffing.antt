@@ -4,9 +4,9 @@ use mathlib.Core.Path.{_≡_, refl, sym, ap, _∙_}
 use mathlib.Core.List.{List, [], _∷_, _++_, append-assoc, append-nil}
 use Prim.Native.Nat.{ℕ}
 use lib.ListN.{length, length-append}
-use Rattle.hdlc.specs.Kinds.{isFlag, isEscape, isSkipped}
-use Rattle.hdlc.proofs.LawsKinds.{Tests, by-octet}
-use Rattle.hdlc.specs.Frame.{sent, stuffed}
+use Rattle.frame.specs.Kinds.{isFlag, isEscape, isSkipped}
+use Rattle.frame.proofs.LawsKinds.{Tests, by-octet}
+use Rattle.frame.specs.Frame.{sent, stuffed}
 use Rattle.hdlc.specs.Reading.{later}
 use Rattle.hdlc.specs.Wire.{kept, meant, pends, gathered, cutEscape, grown, verdictAt, call}
 use Rattle.hdlc.proofs.LawsReading.{later-zero, later-later}

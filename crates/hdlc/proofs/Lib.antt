@@ -1,12 +1,8 @@
-pub mod LawsKinds
-pub mod LawsFcs
-pub mod LawsFrame
 pub mod LawsFates
 pub mod LawsReading
 pub mod LawsPieces
 pub mod LawsStates
 pub mod LawsStuffing
-pub mod FrameBounds
 pub mod ClosedForm
 pub mod ReaderRules
 pub mod LawsCalls

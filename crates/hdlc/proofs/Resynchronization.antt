@@ -11,10 +11,10 @@ use lib.Seq.{drop-length}
 use Rattle.octets.specs.Octets.{Octets}
 use Rattle.octets.specs.LittleEndian.{leOctets}
 use Rattle.octets.proofs.LawsTests.{by-test}
+use Rattle.frame.specs.Fcs.{fcs}
+use Rattle.frame.specs.Kinds.{isFlag}
+use Rattle.frame.specs.Frame.{Body, checked, frame}
 use Rattle.hdlc.specs.declared.reader.Reader.{Reader}
-use Rattle.hdlc.specs.Fcs.{fcs}
-use Rattle.hdlc.specs.Kinds.{isFlag}
-use Rattle.hdlc.specs.Frame.{Body, checked, frame}
 use Rattle.hdlc.specs.Reading.{decided, headed, mostGathered, fresh, Held, held, after, flagFate, fateAt, Outcome, outcome, later, run}
 use Rattle.hdlc.specs.Wire.{Verdict, told}
 use Rattle.hdlc.specs.Histories.{callsTell, callsLeave, offers, offered}

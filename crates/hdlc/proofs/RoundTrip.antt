@@ -12,15 +12,15 @@ use Rattle.octets.specs.Octets.{Octets}
 use Rattle.octets.specs.LittleEndian.{le, leAt, leOctets}
 use Rattle.octets.proofs.LawsLittleEndian.{length-le}
 use Rattle.octets.proofs.LittleEndianRoundTrip.{number-back}
-use Rattle.hdlc.specs.Fcs.{fcs}
-use Rattle.hdlc.specs.Kinds.{isFlag}
-use Rattle.hdlc.specs.Frame.{Body, stuffed, checked, frame}
+use Rattle.frame.specs.Fcs.{fcs}
+use Rattle.frame.specs.Kinds.{isFlag}
+use Rattle.frame.specs.Frame.{Body, stuffed, checked, frame}
+use Rattle.frame.proofs.LawsFcs.{fcs-bound}
+use Rattle.frame.proofs.LawsFrame.{checked-length}
 use Rattle.hdlc.specs.Reading.{later, bodyOf, checkOf, judged, headed, mostGathered, fresh, held, outcome, run}
 use Rattle.hdlc.specs.Wire.{kept, gathered, cutEscape, verdict, grown, finished, unfinished, told, verdicts, verdictAt, call, callReads}
 use Rattle.hdlc.specs.States.{readerAfter, over, holding, closed}
 use Rattle.hdlc.proofs.LawsFates.{headed-decided, told-headed}
-use Rattle.hdlc.proofs.LawsFcs.{fcs-bound}
-use Rattle.hdlc.proofs.LawsFrame.{checked-length}
 use Rattle.hdlc.proofs.LawsStuffing.{stuffed-gives, stuffed-passed}
 use Rattle.hdlc.proofs.LawsStates.{over-few}
 use Rattle.hdlc.proofs.ClosedForm.{call-closed}

@@ -1,6 +1,3 @@
-pub mod Fcs
-pub mod Kinds
-pub mod Frame
 pub mod Reading
 pub mod Rules
 pub mod Wire

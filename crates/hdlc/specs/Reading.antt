@@ -6,11 +6,11 @@ use lib.Dec.{ltb, eqb}
 use lib.ListN.{length, take, getD, set}
 use lib.Bits.{bitXor}
 use Rattle.octets.specs.LittleEndian.{leAt}
+use Rattle.frame.specs.Kinds.{isFlag, isEscape, isSkipped}
+use Rattle.frame.specs.Fcs.{fcs}
 use Rattle.hdlc.specs.declared.reader.Fate.{Fate}
 use Rattle.hdlc.specs.declared.reader.Fate.the-variants.{Unfinished, Checked, Short, WrongCheck, TooLong, CutEscape, BadHeader}
 use Rattle.hdlc.specs.declared.reader.Reader.{Reader}
-use Rattle.hdlc.specs.Kinds.{isFlag, isEscape, isSkipped}
-use Rattle.hdlc.specs.Fcs.{fcs}
 
 -- ---- fates
 

@@ -4,8 +4,8 @@ use mathlib.Core.List.{List, [], _∷_, _++_}
 use Prim.Native.Nat.{ℕ}
 use lib.Dec.{ltb}
 use lib.ListN.{length, take, drop}
+use Rattle.frame.specs.Frame.{stuffed}
 use Rattle.hdlc.specs.declared.reader.Reader.{Reader}
-use Rattle.hdlc.specs.Frame.{stuffed}
 use Rattle.hdlc.specs.Reading.{mostGathered, decided, gathering, overlong, fresh, Held, held, Outcome, outcome}
 use Rattle.hdlc.specs.Wire.{gathered, cutEscape, Call}
 

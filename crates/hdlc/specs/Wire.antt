@@ -6,9 +6,9 @@ use lib.Dec.{ltb, eqb}
 use lib.ListN.{length, take}
 use lib.Bits.{bitXor}
 use Rattle.octets.specs.Runs.{each, emitted}
+use Rattle.frame.specs.Kinds.{isFlag, isEscape, isSkipped}
 use Rattle.hdlc.specs.declared.reader.Fate.{Fate}
 use Rattle.hdlc.specs.declared.reader.Fate.the-variants.{Unfinished, Checked, Short, WrongCheck, TooLong, CutEscape, BadHeader}
-use Rattle.hdlc.specs.Kinds.{isFlag, isEscape, isSkipped}
 use Rattle.hdlc.specs.Reading.{mostGathered, number, decided, judged, Read, later}
 
 -- ---- one piece: the octets between two flags

@@ -1,7 +1,7 @@
 // The frame reader. Its state goes in and out by value; the octets that it gathers stand in a lent assembly buffer.
-use crate::fcs::fcs16;
-use crate::kind::Kind;
-use crate::kind::kind_of;
+use frame::Kind;
+use frame::fcs16;
+use frame::kind_of;
 use octets::read_le;
 ghost use mathlib.Core.Bool.{Bool, true};
 ghost use mathlib.Core.Path.{_≡_};

@@ -8,21 +8,21 @@ use native.Mathlib.Omega.{arith}
 use lib.ListN.{length, replicate, length-replicate}
 use lib.Seq.{take-append-seam}
 use Rattle.octets.specs.Octets.{Octets}
+use Rattle.frame.specs.Frame.{checked, frame}
+use Rattle.frame.proofs.LawsFrame.{unframed-octets}
 use Rattle.hdlc.specs.declared.reader.Fate.{Fate}
 use Rattle.hdlc.specs.declared.reader.Fate.the-variants.{Checked}
 use Rattle.hdlc.specs.declared.reader.Reader.{Reader}
-use Rattle.hdlc.specs.Frame.{checked, frame}
 use Rattle.hdlc.specs.Reading.{mostGathered, outcome}
 use Rattle.hdlc.specs.Wire.{bodyIn}
 use Rattle.hdlc.proofs.reader.Fate.{the-type as fate-type}
 use Rattle.hdlc.proofs.LawsFates.{headed-checked}
-use Rattle.hdlc.proofs.LawsFrame.{unframed-octets}
 use Rattle.hdlc.proofs.LawsReading.{tag-unchecked}
 use Rattle.hdlc.proofs.ReaderRules.{fresh-rules}
 use Rattle.hdlc.proofs.CheckedBodies.{checked-body}
 use Rattle.hdlc.proofs.RoundTrip.{round-trip}
-use Rattle.command.specs.Reply.{headerOf}
-use Rattle.engine.proofs.ReplyBounds.{Bounded}
+use Rattle.request.specs.Verdict.{headerOf}
+use Rattle.command.proofs.LawsDecisions.{Bounded}
 use Rattle.ncp.specs.Turns.{readBack, bodyBack, GotBack}
 
 cleared-room : mostGathered ≤ length {A = ℕ} (replicate mostGathered 0)

@@ -10,11 +10,11 @@ use lib.ListN.{length, take, drop, replicate}
 use lib.Seq.{length-sets, take-append-seam}
 use Rattle.octets.specs.Octets.{Octets}
 use Rattle.octets.proofs.LawsTests.{chosen}
+use Rattle.frame.specs.Frame.{frame, writing}
+use Rattle.frame.proofs.FrameBounds.{frame-bounds}
 use Rattle.hdlc.specs.declared.reader.Reader.{Reader}
-use Rattle.hdlc.specs.Frame.{frame, writing}
 use Rattle.hdlc.specs.Reading.{number, mostGathered, held, run}
 use Rattle.hdlc.specs.Wire.{bodyIn}
-use Rattle.hdlc.proofs.FrameBounds.{frame-bounds}
 use Rattle.hdlc.proofs.LawsReading.{run-reads}
 use Rattle.hdlc.proofs.ReaderRules.{rules-told}
 use Rattle.hdlc.proofs.CheckedBodies.{checked-top}

@@ -10,9 +10,9 @@ use native.Mathlib.Omega.{arith}
 use lib.Dec.{eqb, ltb}
 use lib.ListN.{length, length-map}
 use Rattle.octets.proofs.LawsTests.{chosen}
+use Rattle.frame.specs.Frame.{frame, stuffed}
 use Rattle.hdlc.specs.declared.reader.Fate.{Fate}
 use Rattle.hdlc.specs.declared.reader.Fate.the-variants.{Unfinished, Checked, Short, WrongCheck, TooLong, CutEscape, BadHeader}
-use Rattle.hdlc.specs.Frame.{frame, stuffed}
 use Rattle.hdlc.specs.Reading.{number, mostGathered, fresh}
 use Rattle.hdlc.specs.States.{openPiece}
 use Rattle.hdlc.specs.Wire.{call}

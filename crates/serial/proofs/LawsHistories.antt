@@ -10,7 +10,7 @@ use lib.ListN.{length, take}
 use Rattle.octets.specs.Runs.{each}
 use Rattle.octets.proofs.LawsRuns.{each-append, emitted-append}
 use Rattle.octets.proofs.LawsTests.{by-test}
-use Rattle.hdlc.specs.Frame.{frame}
+use Rattle.frame.specs.Frame.{frame}
 use Rattle.hdlc.specs.Reading.{number, mostGathered, held, Outcome, run}
 use Rattle.hdlc.specs.Rules.{rules as readerRules}
 use Rattle.hdlc.specs.States.{closed}

@@ -10,14 +10,14 @@ use lib.ListN.{length, take}
 use lib.Seq.{take-append-seam}
 use Rattle.octets.specs.Runs.{each}
 use Rattle.octets.proofs.LawsTests.{by-test, both-told}
+use Rattle.frame.specs.Frame.{frame, writing}
+use Rattle.frame.proofs.FrameBounds.{frame-bounds}
 use Rattle.hdlc.specs.declared.reader.Fate.{Fate}
 use Rattle.hdlc.specs.declared.reader.Fate.the-variants.{Unfinished, Checked, Short, WrongCheck, TooLong, CutEscape, BadHeader}
 use Rattle.hdlc.specs.declared.reader.Reader.{Reader}
-use Rattle.hdlc.specs.Frame.{frame, writing}
 use Rattle.hdlc.specs.Reading.{number, held, Outcome}
 use Rattle.hdlc.specs.Rules.{rules as readerRules}
 use Rattle.hdlc.specs.Wire.{bodyIn, told}
-use Rattle.hdlc.proofs.FrameBounds.{frame-bounds}
 use Rattle.device.specs.declared.state.Device.{Device}
 use Rattle.device.specs.Rules.{rules}
 use Rattle.engine.specs.Engine.{engine}

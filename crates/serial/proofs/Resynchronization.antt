@@ -7,13 +7,13 @@ use mathlib.Core.List.{List, [], _∷_, _++_, append-assoc, append-nil, map}
 use Prim.Native.Nat.{ℕ, _/_}
 use lib.Seq.{take-length}
 use Rattle.octets.specs.Octets.{Octets}
-use Rattle.hdlc.specs.Kinds.{isFlag}
-use Rattle.hdlc.specs.Frame.{Body, stuffed, checked, frame}
+use Rattle.frame.specs.Kinds.{isFlag}
+use Rattle.frame.specs.Frame.{Body, stuffed, checked, frame}
 use Rattle.hdlc.specs.Wire.{kept, gathered, cutEscape, verdict, ended, grown, finished, unfinished, told, verdicts}
 use Rattle.hdlc.proofs.LawsFates.{headed-checked}
 use Rattle.hdlc.proofs.LawsPieces.{unfinished-append}
 use Rattle.hdlc.proofs.RoundTrip.{frame-told, frame-leaves}
-use Rattle.command.specs.Reply.{headerOf}
+use Rattle.request.specs.Verdict.{headerOf}
 use Rattle.engine.specs.Engine.{engine}
 use Rattle.engine.specs.Merged.{deviceAfter, repliesTo}
 use Rattle.serial.specs.Histories.{Setup, deviceFrom, History, repliesIn, laid, checkedOf, checkedIn, bodies}

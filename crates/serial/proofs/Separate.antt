@@ -6,11 +6,11 @@ use mathlib.Core.Bool.{cond}
 use mathlib.Core.List.{[], _∷_, map}
 use Prim.Native.Nat.{ℕ, _<_}
 use lib.Dec.{ltb}
-use Rattle.hdlc.specs.Frame.{frame}
+use Rattle.frame.specs.Frame.{frame}
 use Rattle.property.specs.Rows.{rows}
 use Rattle.device.proofs.SetupKeepsRules.{setup-keeps}
-use Rattle.command.specs.View.{viewOf}
-use Rattle.command.specs.Value.{valueOf}
+use Rattle.device.specs.View.{viewOf}
+use Rattle.reply.specs.Value.{valueOf}
 use Rattle.engine.specs.Merged.{picked}
 use Rattle.engine.proofs.Separation.{separation}
 use Rattle.engine.proofs.LawsRepliesInOrder.{picked-replies}

@@ -9,15 +9,16 @@ use lib.ListN.{length, replicate}
 use Rattle.octets.specs.Finding.{before}
 use Rattle.octets.specs.LittleEndian.{le, leAt}
 use Rattle.octets.specs.Padding.{pad}
-use Rattle.hdlc.specs.Kinds.{isFlag, isEscape, isSkipped}
-use Rattle.hdlc.specs.Fcs.{fcsBit, fcsBits, fcsOctet, fcsFrom, fcs}
+use Rattle.frame.specs.Kinds.{isFlag, isEscape, isSkipped}
+use Rattle.frame.specs.Fcs.{fcsBit, fcsBits, fcsOctet, fcsFrom, fcs}
 use Rattle.hdlc.specs.Reading.{bodyOf, checkOf, headed, judged}
 use Rattle.hdlc.specs.Wire.{kept, meant, pends, gathered, cutEscape, verdict, ended, grown, finished, unfinished, told, verdicts, verdictAt, call, callReads}
 use Rattle.device.specs.State.{goodText, isText, fresh}
 use Rattle.device.specs.Setup.{isSetup, setupFor}
+use Rattle.device.specs.declared.view.Effect.the-variants.{Reset, Powered}
+use Rattle.command.specs.Effects.{isReset, isPower, effectOf}
 use Rattle.engine.specs.Engine.{linkOf, isSetUp}
-use Rattle.command.specs.declared.view.Effect.the-variants.{Reset, Powered}
-use Rattle.engine.specs.Merged.{isReset, isPower, effectOf, Item, whole, only, effectItem, itemOf, merged}
+use Rattle.engine.specs.Merged.{Item, whole, only, effectItem, itemOf, merged}
 use Rattle.serial.specs.Histories.{Setup, own, short, ReceivingCall, History, isRefused, readBy, laidFrom, laid, checkedOf, checkedIn, bodies}
 use Rattle.serial.specs.Links.{mergedIn}
 use Rattle.serial.proofs.Separate.{Alike, separate}

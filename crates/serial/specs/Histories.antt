@@ -5,8 +5,8 @@ use Prim.Native.Nat.{ℕ, _<_}
 use lib.Dec.{eqb, ltb}
 use lib.ListN.{length, take}
 use Rattle.octets.specs.Runs.{each, emitted}
+use Rattle.frame.specs.Frame.{frame}
 use Rattle.hdlc.specs.declared.reader.Reader.{Reader}
-use Rattle.hdlc.specs.Frame.{frame}
 use Rattle.hdlc.specs.Reading.{number, mostGathered, fresh}
 use Rattle.hdlc.specs.Wire.{Verdict, verdicts, finished, unfinished, call, callReads}
 use Rattle.device.specs.declared.state.Device.{Device}

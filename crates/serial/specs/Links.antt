@@ -6,8 +6,8 @@ use lib.Dec.{ltb}
 use Rattle.property.specs.Rows.{rows}
 use Rattle.device.specs.declared.state.Settings.{Settings}
 use Rattle.device.specs.declared.state.Device.{Device}
-use Rattle.command.specs.View.{viewOf}
-use Rattle.command.specs.Value.{valueOf}
+use Rattle.device.specs.View.{viewOf}
+use Rattle.reply.specs.Value.{valueOf}
 use Rattle.engine.specs.Merged.{Item, merged, repliesOn, picked}
 use Rattle.serial.specs.Histories.{Setup, deviceFrom, History, repliesIn, bodies}
 

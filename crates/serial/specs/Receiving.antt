@@ -4,8 +4,8 @@ use mathlib.Core.List.{List}
 use Prim.Native.Nat.{ℕ}
 use lib.Dec.{eqb, ltb}
 use lib.ListN.{length}
+use Rattle.frame.specs.Frame.{writing}
 use Rattle.hdlc.specs.declared.reader.Reader.{Reader}
-use Rattle.hdlc.specs.Frame.{writing}
 use Rattle.hdlc.specs.Reading.{number, mostGathered, held, Outcome, run}
 use Rattle.hdlc.specs.Rules.{rules as readerRules}
 use Rattle.hdlc.specs.Wire.{bodyIn}

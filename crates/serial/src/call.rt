@@ -1,19 +1,19 @@
 // The receiving call (01, Octets on the wire).
 use device::Device;
 use engine::answer;
+use frame::write_frame;
 use hdlc::Fate;
 use hdlc::Reader;
 use hdlc::read_frame;
-use hdlc::write_frame;
 ghost use mathlib.Core.Bool.{true};
 ghost use mathlib.Core.Path.{_≡_};
 ghost use Prim.Native.Nat.{_≤_, _/_};
 ghost use lib.ListN.{length};
-ghost use Rattle.hdlc.specs.Frame.{written, writing};
+ghost use Rattle.frame.specs.Frame.{written, writing};
 ghost use Rattle.hdlc.specs.Reading.{mostGathered, held, run};
 ghost use Rattle.hdlc.specs.Rules.{rules as readerRules};
 ghost use Rattle.device.specs.Rules.{rules};
-ghost use Rattle.command.specs.Reply.{headerOf};
+ghost use Rattle.request.specs.Verdict.{headerOf};
 ghost use Rattle.engine.specs.Engine.{engine};
 ghost use Rattle.serial.specs.Receiving.{leastOutput, resultOf, breaksRules, unrefused, receive};
 

@@ -2,7 +2,7 @@
 use crate::cases;
 use crate::cases::Kind;
 use crate::show;
-use hdlc::fcs16;
+use frame::fcs16;
 use libc::STDOUT_FILENO;
 
 pub fn run() {

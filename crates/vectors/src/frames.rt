@@ -2,8 +2,8 @@
 use crate::cases;
 use crate::cases::Kind;
 use crate::show;
+use frame::write_frame;
 use hdlc::Reader;
-use hdlc::write_frame;
 
 pub fn run() {
     // Nothing to escape: n + 4 octets.

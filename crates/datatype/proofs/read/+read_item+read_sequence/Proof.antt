@@ -7,28 +7,29 @@ use Prim.Native.Nat.{ℕ, _+_, _*_, _-_, _≤_, _<_}
 use native.Mathlib.Omega.{arith}
 use borrow.Author.Needs.{needs}
 use lib.ListN.{length, getD, drop}
-use Rattle.datatype.specs.declared.kind.Kind.{Kind}
-use Rattle.datatype.specs.declared.kind.Kind.the-variants as kind
-use Rattle.datatype.specs.Kinds.{kindOf}
-use Rattle.datatype.specs.Grammar.{Item, Items, array}
-use Rattle.datatype.specs.Parse.{closed}
-use Rattle.datatype.specs.Reading.{itemReads, partReads}
-use Rattle.datatype.specs.Calls.{PartFrom, ItemFrom, Room}
-use Rattle.datatype.proofs.LawsReader.{reads-value, span-small, reads-rest, struct-at, struct-room, struct-misfit, struct-reads, reads-array, array-at, element-misfit, element-room, element-on, elements-end, sequence-ends, turn-misfit, turn-room, turn-on}
-use Rattle.datatype.proofs.LawsDid.{Finishes}
-use Rattle.datatype.proofs.LawsPlaces.{part-item, item-first, array-inner}
-use Rattle.datatype.proofs.LawsLeaves.{counted-fits}
 use borrow.Fn.Kinds.{In}
 use borrow.Fn.PlainCycle.{Measures, is, falls, and}
+use Rattle.typestring.specs.declared.kind.Kind.{Kind}
+use Rattle.typestring.specs.declared.kind.Kind.the-variants as kind
+use Rattle.typestring.specs.Kinds.{kindOf}
+use Rattle.typestring.specs.Grammar.{Item, Items, array}
+use Rattle.typestring.specs.Parse.{closed}
+use Rattle.typestring.specs.Calls.{PartFrom, ItemFrom}
+use Rattle.typestring.proofs.LawsPlaces.{part-item, item-first, array-inner}
+use Rattle.typestring.proofs.item_end.Reads as item-end-reads
+use Rattle.typestring.proofs.closed.Reads as closed-reads
+use Rattle.typestring.proofs.kind_of.Reads as kind-of-reads
+use Rattle.datatype.specs.Reading.{itemReads, partReads}
+use Rattle.datatype.specs.Calls.{Room}
+use Rattle.datatype.proofs.LawsReader.{reads-value, span-small, reads-rest, struct-at, struct-room, struct-misfit, struct-reads, reads-array, array-at, element-misfit, element-room, element-on, elements-end, sequence-ends, turn-misfit, turn-room, turn-on}
+use Rattle.datatype.proofs.LawsDid.{Finishes}
+use Rattle.datatype.proofs.LawsLeaves.{counted-fits}
 use Rattle.datatype.proofs.read.read_item.Reads as item
 use Rattle.datatype.proofs.read.read_item.Kinds as item-kinds
 use Rattle.datatype.proofs.read.+read_item+read_sequence.Lts-read_item as item-lts
 use Rattle.datatype.proofs.read.read_sequence.Reads as sequence
 use Rattle.datatype.proofs.read.read_sequence.Kinds as sequence-kinds
 use Rattle.datatype.proofs.read.+read_item+read_sequence.Lts-read_sequence as sequence-lts
-use Rattle.datatype.proofs.brackets.item_end.Reads as item-end-reads
-use Rattle.datatype.proofs.check.closed.Reads as closed-reads
-use Rattle.datatype.proofs.kind.kind_of.Reads as kind-of-reads
 use Rattle.datatype.proofs.leaf.counted_at.Reads as counted-at-reads
 use Rattle.datatype.proofs.leaf.rest_of.Reads as rest-of-reads
 use Rattle.datatype.proofs.leaf.span_of.Reads as span-of-reads

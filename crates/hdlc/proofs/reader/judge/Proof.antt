@@ -8,8 +8,8 @@ use borrow.Author.Tests.{eq-eqb, ne-eqb, lt-ltb, le-ltb}
 use lib.Dec.{eqb}
 use lib.ListN.{length, getD}
 use lib.Seq.{length-take-le}
+use Rattle.frame.specs.Fcs.{fcs}
 use Rattle.hdlc.specs.declared.reader.Fate.the-variants.{Checked, BadHeader}
-use Rattle.hdlc.specs.Fcs.{fcs}
 use Rattle.hdlc.specs.Reading.{bodyOf, checkOf, judged}
 use Rattle.hdlc.proofs.LawsFates.{headed-gathered}
 use Rattle.hdlc.proofs.reader.judge.Statement.{statement}

@@ -1,8 +1,8 @@
 -- Each arm has the kind by which the definitions go. Assumes nothing.
 use mathlib.Core.Path.{sym, _∙_}
 use borrow.Author.Needs.{needs}
+use Rattle.frame.proofs.LawsKinds.{kind-tests}
 use Rattle.hdlc.specs.Reading.{after, fateAt}
-use Rattle.hdlc.proofs.LawsKinds.{kind-tests}
 use Rattle.hdlc.proofs.reader.read_octet.Statement.{statement}
 use Rattle.hdlc.proofs.reader.read_octet.Tie as tie
 

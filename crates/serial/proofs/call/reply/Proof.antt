@@ -6,9 +6,10 @@ use native.Mathlib.Omega.{arith}
 use borrow.Author.Needs.{needs}
 use lib.ListN.{length, take}
 use Rattle.octets.proofs.LawsWriting.{front-count, front-taken}
-use Rattle.hdlc.proofs.FrameBounds.{frame-bounds}
+use Rattle.frame.proofs.FrameBounds.{frame-bounds}
+use Rattle.command.proofs.LawsDecisions.{Bounded}
 use Rattle.engine.specs.Engine.{engine}
-use Rattle.engine.proofs.ReplyBounds.{Bounded, reply-bounds}
+use Rattle.engine.proofs.ReplyBounds.{reply-bounds}
 use Rattle.serial.proofs.call.reply.Statement.{statement}
 use Rattle.serial.proofs.call.reply.Tie as tie
 

@@ -1,7 +1,7 @@
 -- The room that is tested for holds the frame, by `frame-bounds`. Assumes nothing.
 use borrow.Author.Needs.{needs}
 use native.Mathlib.Omega.{arith}
-use Rattle.hdlc.proofs.FrameBounds.{frame-bounds}
+use Rattle.frame.proofs.FrameBounds.{frame-bounds}
 use Rattle.vectors.proofs.frames.framed.Statement.{statement}
 use Rattle.vectors.proofs.frames.framed.Tie as tie
 

@@ -1,0 +1,15 @@
+-- The link is the one given, with another status. Assumes nothing.
+use mathlib.Core.Path.{refl}
+use borrow.Author.Needs.{needs}
+use Rattle.command.specs.Decide.{reported}
+use Rattle.command.proofs.decision.report_status.Statement.{statement}
+use Rattle.command.proofs.decision.report_status.Tie as tie
+
+pub report-status-spec : {M : Type 1} → statement M
+unfolding reported
+report-status-spec =
+    tie.close
+    (tie.spec
+    (λ c κs. search needs)
+    (λ c. search needs)
+    (λ c. record { effect = refl; link = refl; reply = c .before .before .write-status .ensures }))

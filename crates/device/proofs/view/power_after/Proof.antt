@@ -1,0 +1,17 @@
+-- Each arm is a clause of the definition. Assumes nothing.
+use borrow.Author.Needs.{needs}
+use Rattle.device.specs.View.{powerAfter}
+use Rattle.device.proofs.view.power_after.Statement.{statement}
+use Rattle.device.proofs.view.power_after.Tie as tie
+
+pub power-after-spec : {M : Type 1} → statement M
+unfolding powerAfter
+power-after-spec =
+    tie.close
+    (tie.spec
+    (λ c. search needs)
+    (λ c. search needs)
+    (λ c. search needs)
+    (λ c. rw (c .enum-told .given .1))
+    (λ c. rw (c .enum-told2 .given .1))
+    (λ c. rw (c .before .effect .given .1)))

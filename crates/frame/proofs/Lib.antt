@@ -1,0 +1,4 @@
+pub mod LawsKinds
+pub mod LawsFcs
+pub mod LawsFrame
+pub mod FrameBounds

@@ -1,0 +1,3 @@
+pub mod Fcs
+pub mod Kinds
+pub mod Frame

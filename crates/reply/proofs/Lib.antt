@@ -1,0 +1,2 @@
+pub mod LawsReplies
+pub mod Scopes

@@ -1,0 +1,43 @@
+-- What a body asks, before its payload is looked at: steps 2 to 5 of 01, Commands.
+use Prim.Native.Nat.{ℕ}
+use mathlib.Core.Bool.{cond}
+use mathlib.Core.List.{List}
+use lib.Dec.{eqb, ltb}
+use lib.ListN.{getD}
+use Rattle.packed.specs.Packed.{packedAt}
+use Rattle.packed.specs.declared.Packed.{Packed}
+use Rattle.packed.specs.declared.Packed.the-variants.{Number, Unreadable}
+use Rattle.property.specs.Rows.{lookup, allows}
+use Rattle.property.specs.declared.row.Command.{Command}
+use Rattle.property.specs.declared.row.Command.the-variants.{Get, Set, Insert, Remove}
+use Rattle.property.specs.declared.row.Found.{Found}
+use Rattle.property.specs.declared.row.Found.the-variants.{At, Unknown}
+use Rattle.request.specs.declared.verdict.Verdict.{Verdict}
+use Rattle.request.specs.declared.verdict.Verdict.the-variants.{Refuse, Noop, Reset, Reach}
+
+-- "Header: two bits 10, two bits link, four bits transaction"
+abbrev pub headerOf : List ℕ → ℕ
+headerOf b = getD b 0 0
+
+-- "GET (2) and SET (3) ..; INSERT (4) .. and REMOVE (5)"
+unfoldable pub commandOf : ℕ → Command
+commandOf n = cond (eqb n 2) Get (cond (eqb n 3) Set (cond (eqb n 4) Insert Remove))
+
+-- step 4, "unknown: 13", and step 5, "command not allowed for it: 21"
+unfoldable pub byRow : Command → ℕ → Found → Verdict
+byRow c start Unknown = Refuse 4 13
+byRow c start (At r) = cond (allows r c) (Reach c r start) (Refuse 5 21)
+
+-- step 4, "property number unreadable: 9"
+unfoldable pub byProperty : Command → Packed → Verdict
+byProperty c Unreadable = Refuse 4 9
+byProperty c (Number id start) = byRow c start (lookup id)
+
+-- step 2, "command unreadable: 9; none of 0 to 5: 5", and step 3, NOOP and RESET
+unfoldable pub byCommand : List ℕ → Packed → Verdict
+byCommand b Unreadable = Refuse 2 9
+byCommand b (Number n next) =
+    cond (eqb n 0) Noop (cond (eqb n 1) Reset (cond (ltb 5 n) (Refuse 2 5) (byProperty (commandOf n) (packedAt b next))))
+
+unfoldable pub verdict : List ℕ → Verdict
+verdict b = byCommand b (packedAt b 1)

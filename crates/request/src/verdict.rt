@@ -1,0 +1,72 @@
+// What a body asks, before its payload is looked at: steps 2 to 5 of 01, Commands.
+use packed::Packed;
+use packed::read_packed;
+use property::Command;
+use property::Found;
+use property::Row;
+use property::allows;
+use property::find;
+use property::status;
+ghost use mathlib.Core.Path.{_≡_};
+ghost use Rattle.request.specs.Verdict.{commandOf, byProperty, verdict};
+
+pub enum Verdict {
+    // Stopped by 01's step of this number, with this status.
+    Refuse(u8, u8),
+    Noop,
+    Reset,
+    // A command on a property that allows it; the payload starts at this place.
+    Reach(Command, Row, usize),
+}
+
+// The command of a number from 2 to 5.
+fn command_of(number: u32) -> Command
+    ensures { λ r. ⌜ r ≡ commandOf number ⌝ }
+{
+    if number == 2 {
+        return Command::Get;
+    }
+    if number == 3 {
+        return Command::Set;
+    }
+    if number == 4 {
+        return Command::Insert;
+    }
+    Command::Remove
+}
+
+// Steps 4 and 5.
+fn by_property(command: Command, number: Packed) -> Verdict
+    ensures { λ r. ⌜ r ≡ byProperty command number ⌝ }
+{
+    let Packed::Number(id, start) = number else {
+        return Verdict::Refuse(4, status::PARSE_ERROR);
+    };
+    let found = find(id);
+    let Found::At(row) = found else {
+        return Verdict::Refuse(4, status::PROP_NOT_FOUND);
+    };
+    if allows(row, command) {
+        return Verdict::Reach(command, row, start);
+    }
+    Verdict::Refuse(5, status::INVALID_COMMAND_FOR_PROP)
+}
+
+pub fn verdict_of(body: &[u8]) -> Verdict
+    ensures { λ r. ⌜ r ≡ verdict (now (body .entry)) ⌝ }
+{
+    let number = read_packed(body, 1);
+    let Packed::Number(command, next) = number else {
+        return Verdict::Refuse(2, status::PARSE_ERROR);
+    };
+    if command == 0 {
+        return Verdict::Noop;
+    }
+    if command == 1 {
+        return Verdict::Reset;
+    }
+    if 5 < command {
+        return Verdict::Refuse(2, status::INVALID_COMMAND);
+    }
+    by_property(command_of(command), read_packed(body, next))
+}

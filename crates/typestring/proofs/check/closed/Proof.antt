@@ -1,0 +1,21 @@
+-- The string's end, or the octet at the place. Assumes nothing.
+use native.Mathlib.Omega.{arith}
+use lib.ListN.{drop-of-length-le}
+use Rattle.octets.proofs.LawsLists.{drop-next}
+use Rattle.typestring.specs.Parse.{closed}
+use Rattle.typestring.proofs.check.closed.Statement.{statement}
+use Rattle.typestring.proofs.check.closed.Tie as tie
+
+returns : tie.Need-returns
+unfolding closed
+returns c = let a = c .before .args in rw (drop-of-length-le (a .types .now) {i = a .at} (omega arith))
+
+shared-slice-read-result : tie.Need-shared-slice-read-result
+shared-slice-read-result c = omega arith
+
+returns-2 : tie.Need-returns-2
+unfolding closed
+returns-2 c = let a = c .before .before .args in rw (drop-next (a .types .now) (a .at) (omega arith))
+
+pub closed-spec : {M : Type 1} → statement M
+closed-spec = tie.close (tie.spec returns shared-slice-read-result returns-2)

@@ -1,0 +1,4 @@
+pub mod Kinds
+pub mod Grammar
+pub mod Parse
+pub mod Calls
