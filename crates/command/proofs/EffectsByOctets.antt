@@ -1,5 +1,5 @@
 -- PROMISE: what a body on a link that is set up does to the whole box is what 01, Whole histories, tells by its octets: a reset, an
--- accepted setting of the power state, or nothing. Assumes nothing.
+-- accepted setting of the power state, or nothing.
 use mathlib.Core.Path.{_≡_, refl, sym, ap, ap₂, _∙_}
 use mathlib.Core.Bool.{true, false, _&&_}
 use mathlib.Core.List.{List, [], _∷_}

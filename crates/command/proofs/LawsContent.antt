@@ -1,4 +1,4 @@
--- How much content the reply to a command that was performed has, from a state that keeps its rules. Assumes nothing.
+-- How much content the reply to a command that was performed has, from a state that keeps its rules.
 use mathlib.Core.Path.{_≡_, refl}
 use mathlib.Core.Bool.{Bool, true, false, cond}
 use mathlib.Core.List.{List}

@@ -1,4 +1,4 @@
--- What a body on a link leaves and replies: a link that keeps its rules, a reply of 3 to 61 octets, and its header. Assumes nothing.
+-- What a body on a link leaves and replies: a link that keeps its rules, a reply of 3 to 61 octets, and its header.
 use mathlib.Core.Path.{_≡_, refl}
 use mathlib.Core.Bool.{true, false, cond}
 use mathlib.Core.List.{List}

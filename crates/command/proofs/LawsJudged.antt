@@ -1,5 +1,5 @@
 -- What a body on a link comes to, from a state that keeps its rules: a refusal has a status that a link can hold, and a success leaves a
--- link that keeps its rules, with the last status that it had, and a reply of 3 to 61 octets. Assumes nothing.
+-- link that keeps its rules, with the last status that it had, and a reply of 3 to 61 octets.
 use mathlib.Core.Path.{_≡_, refl}
 use mathlib.Core.Bool.{true}
 use mathlib.Core.List.{List}

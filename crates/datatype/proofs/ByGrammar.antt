@@ -1,5 +1,5 @@
 -- PROMISE: the answer is told by the grammar alone. For a string of the grammar it is what the string's tree reads in the payload, and for
--- any other string it is 15. Assumes nothing.
+-- any other string it is 15.
 use mathlib.Core.Bool.{cond}
 use mathlib.Core.List.{List}
 use mathlib.Core.Path.{_≡_, refl}

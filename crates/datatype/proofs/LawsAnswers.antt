@@ -1,4 +1,4 @@
--- What the public call answers, by what its checks and readings gave. Assumes nothing.
+-- What the public call answers, by what its checks and readings gave.
 use mathlib.Core.Path.{_≡_, refl, sym, ap, _∙_}
 use mathlib.Core.Bool.{true, false}
 use mathlib.Core.List.{List, [], _∷_, _++_, append-nil}

@@ -1,4 +1,4 @@
--- An answer of the reader, the reading that it stands for and the numbers in the list. Assumes nothing.
+-- An answer of the reader, the reading that it stands for and the numbers in the list.
 use mathlib.Core.Path.{_≡_, refl, ap, _∙_}
 use mathlib.Core.List.{List, [], _∷_, _++_}
 use Prim.Native.Nat.{ℕ, _+_, _-_, _*_}

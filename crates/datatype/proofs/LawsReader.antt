@@ -1,5 +1,4 @@
 -- Laws of the reader: what reading an item answers, by the kind of its letter, and what reading on after an item answers.
--- Assumes nothing.
 use types.Run.{OneOf, miss}
 use denote.Enum.Declared.{tagOf}
 use mathlib.Core.Path.{_≡_, refl, sym, ap, _∙_}

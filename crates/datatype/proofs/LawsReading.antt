@@ -1,4 +1,4 @@
--- Laws of readings: what two in a row, contents and elements give. Assumes nothing.
+-- Laws of readings: what two in a row, contents and elements give.
 use mathlib.Core.Path.{_≡_, refl, sym, ap, _∙_}
 use mathlib.Core.List.{List, [], _∷_, _++_}
 use Prim.Native.Nat.{ℕ, zero, suc, _+_, _-_, _≤_, _<_}

@@ -1,4 +1,4 @@
--- The octets that a reading takes and the leaves that it finds in them. Assumes nothing.
+-- The octets that a reading takes and the leaves that it finds in them.
 use mathlib.Core.Path.{_≡_, refl}
 use mathlib.Core.Bool.{Bool, true, false}
 use mathlib.Core.List.{List, [], _∷_, _++_}

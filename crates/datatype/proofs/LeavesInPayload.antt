@@ -1,5 +1,5 @@
 -- PROMISE: where the answer is 0, the leaves stand in the payload one behind the other, there is at most one more of them than octets (so
--- that a list of 3,903 numbers is always long enough), and the list has three numbers for each. Assumes nothing.
+-- that a list of 3,903 numbers is always long enough), and the list has three numbers for each.
 use mathlib.Core.Bool.{false}
 use mathlib.Core.List.{List}
 use mathlib.Core.Path.{_≡_, refl, ap}

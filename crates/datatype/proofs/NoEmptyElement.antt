@@ -1,5 +1,5 @@
 -- PROMISE: no element of an array takes zero octets: the items in the brackets of A(..), read anywhere in any part, go on by one octet or
--- more. So the loop over elements ends without a guard. Assumes nothing.
+-- more. So the loop over elements ends without a guard.
 use mathlib.Core.Bool.{true}
 use mathlib.Core.List.{List}
 use mathlib.Core.Path.{_≡_}

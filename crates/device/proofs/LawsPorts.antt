@@ -1,4 +1,4 @@
--- Laws of ports in octets, at a place and from it on. Assumes nothing.
+-- Laws of ports in octets, at a place and from it on.
 use mathlib.Core.Path.{_≡_, refl, _∙_}
 use mathlib.Core.Bool.{true, false}
 use mathlib.Core.List.{List, [], _∷_}

@@ -1,4 +1,4 @@
--- Laws of the rules that more than one proof asks for. Assumes nothing.
+-- Laws of the rules that more than one proof asks for.
 use mathlib.Core.Path.{_≡_, sym}
 use mathlib.Core.Bool.{true}
 use mathlib.Core.List.{List}

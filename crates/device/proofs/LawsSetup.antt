@@ -1,4 +1,4 @@
--- Laws of setup: when it is refused, and that the rule of its settings says so. Assumes nothing.
+-- Laws of setup: when it is refused, and that the rule of its settings says so.
 use mathlib.Core.Path.{_≡_}
 use mathlib.Core.Bool.{true, false, and-true, and-false}
 use mathlib.Core.List.{List}

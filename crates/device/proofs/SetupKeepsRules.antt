@@ -1,4 +1,4 @@
--- PROMISE: setup's box keeps the rules, refused or not, and so does a fresh box of settings that keep theirs. Assumes nothing.
+-- PROMISE: setup's box keeps the rules, refused or not, and so does a fresh box of settings that keep theirs.
 use mathlib.Core.Path.{_≡_, refl, _∙_}
 use mathlib.Core.Bool.{true}
 use mathlib.Core.List.{List, []}

@@ -1,5 +1,5 @@
 -- PROMISE: what the rules tell. A link that is set up keeps its rule, one that is not is the fresh link; the settings are in their ranges,
--- and the arrays have their lengths. Assumes nothing.
+-- and the arrays have their lengths.
 use mathlib.Core.Path.{_≡_, refl, sym, _∙_}
 use mathlib.Core.Bool.{true}
 use mathlib.Core.List.{List, []}

@@ -1,4 +1,4 @@
--- PROMISE: every marked body of 01 has the reply that 01 gives it, in one statement over the table. Assumes nothing.
+-- PROMISE: every marked body of 01 has the reply that 01 gives it, in one statement over the table.
 use mathlib.Core.Path.{_≡_, refl}
 use mathlib.Core.List.{[], _∷_, map}
 use Rattle.octets.specs.Finding.{before}

@@ -1,5 +1,5 @@
 -- PROMISE: "A refusal changes only that link's last status. NOOP sets it to 0; other successes leave it." A link that is not set up
--- changes nothing. Assumes nothing.
+-- changes nothing.
 use mathlib.Core.Path.{_≡_}
 use mathlib.Core.Bool.{true, false}
 use mathlib.Core.List.{List}

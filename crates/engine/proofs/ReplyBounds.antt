@@ -1,4 +1,4 @@
--- PROMISE: every reply to a body has between 3 and 61 octets, from any state that keeps its rules. Assumes nothing.
+-- PROMISE: every reply to a body has between 3 and 61 octets, from any state that keeps its rules.
 use mathlib.Core.Path.{_≡_}
 use mathlib.Core.Bool.{true}
 use mathlib.Core.List.{List}

@@ -1,4 +1,4 @@
--- PROMISE: "A reply repeats the request's header, zero transactions too, save RESET's", which is 80. Assumes nothing.
+-- PROMISE: "A reply repeats the request's header, zero transactions too, save RESET's", which is 80.
 use mathlib.Core.Path.{_≡_, refl}
 use mathlib.Core.Bool.{cond, _&&_}
 use mathlib.Core.List.{List}

@@ -1,4 +1,4 @@
--- PROMISE: the engine keeps the rules of the state, body by body and over any list of bodies. Assumes nothing.
+-- PROMISE: the engine keeps the rules of the state, body by body and over any list of bodies.
 use mathlib.Core.Path.{_≡_, _∙_}
 use mathlib.Core.Bool.{true}
 use mathlib.Core.List.{List, [], _∷_}

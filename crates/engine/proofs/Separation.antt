@@ -1,6 +1,6 @@
 -- PROMISE: links are separate, over bodies. After any bodies link k's view of the box, and its replies but those to resets, are a function
 -- of the view that it had and of its merged sequence; so they are the same after any two lists of bodies with the same merged sequence,
--- from any two boxes that keep their rules and have the same view of k. Assumes nothing.
+-- from any two boxes that keep their rules and have the same view of k.
 use mathlib.Core.Logic.{_≢_}
 use mathlib.Core.Path.{_≡_, refl, sym, ap, ap₂, _∙_}
 use mathlib.Core.Bool.{Bool, true, false, cond, not, _&&_}

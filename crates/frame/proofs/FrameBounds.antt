@@ -1,4 +1,4 @@
--- PROMISE: a body of n octets takes at least n + 4 and at most 2 n + 6 octets framed (01, Octets on the wire). Assumes nothing.
+-- PROMISE: a body of n octets takes at least n + 4 and at most 2 n + 6 octets framed (01, Octets on the wire).
 use mathlib.Core.Bool.{_||_}
 use mathlib.Core.List.{List, [], _∷_}
 use Prim.Native.Nat.{ℕ, _+_, _*_, _≤_}

@@ -1,4 +1,4 @@
--- Laws of the frame check: its register as the code's loops go, and that the check fits its two octets. Assumes nothing.
+-- Laws of the frame check: its register as the code's loops go, and that the check fits its two octets.
 use mathlib.Core.Path.{_≡_, ap}
 use mathlib.Core.List.{List, [], _∷_}
 use Prim.Native.Nat.{ℕ, zero, suc, _+_, _/_, _%_, _<_, _≤_}

@@ -1,5 +1,5 @@
 -- Laws of written frames: octets as they are sent, one by one, a frame in the order in which it is written, and that a frame of octets
--- is the frame of octets. Assumes nothing.
+-- is the frame of octets.
 use types.Run.{OneOf, miss}
 use denote.Enum.Declared.{tagOf}
 use mathlib.Core.Path.{_≡_, sym, ap, _∙_}

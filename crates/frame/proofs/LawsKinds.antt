@@ -1,4 +1,4 @@
--- Laws of the octets' kinds. Assumes nothing.
+-- Laws of the octets' kinds.
 use mathlib.Core.Bool.{Bool, true, false}
 use mathlib.Core.Path.{_≡_, refl, sym, subst}
 use Prim.Native.Nat.{ℕ}

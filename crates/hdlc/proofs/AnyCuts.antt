@@ -1,5 +1,5 @@
 -- PROMISE: however octets are cut into calls, what the calls tell are the verdicts and bodies of the pieces between the flags, in order,
--- and what they leave is the unfinished piece. Assumes nothing.
+-- and what they leave is the unfinished piece.
 use mathlib.Core.Bool.{cond}
 use mathlib.Core.Path.{_≡_, refl, sym, ap, ap₂, subst, _∙_}
 use mathlib.Core.List.{List, [], _∷_, _++_, append-nil, foldl, foldl-append}

@@ -1,4 +1,4 @@
--- PROMISE: a checked body has 2 to 1,300 octets and the top two header bits 10. Assumes nothing.
+-- PROMISE: a checked body has 2 to 1,300 octets and the top two header bits 10.
 use mathlib.Core.Logic.{⊎-elim}
 use mathlib.Core.Bool.{true}
 use mathlib.Core.Path.{_≡_, refl, ap, _∙_}

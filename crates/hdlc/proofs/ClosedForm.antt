@@ -1,6 +1,6 @@
 -- PROMISE: what one call gives, in closed form. From any reader that keeps its rules and any assembly buffer of 1,302 octets or more,
 -- fate, octets read, reader and buffer at exit are those of the piece that the call ended in: the buffer holds its gathered octets, at
--- most 1,302, from the front, and beyond them what it held. Assumes nothing.
+-- most 1,302, from the front, and beyond them what it held.
 use mathlib.Core.Bool.{true, false, cond}
 use mathlib.Core.Path.{_≡_, refl, sym, ap, ap₂, _∙_}
 use mathlib.Core.List.{List, [], _∷_, _++_}

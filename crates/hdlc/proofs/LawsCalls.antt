@@ -1,4 +1,4 @@
--- One call, told by the octets that it read. Assumes nothing.
+-- One call, told by the octets that it read.
 use mathlib.Core.Bool.{true, false, cond, true≢false, false≢true}
 use mathlib.Core.Logic.{_⊎_, inl, inr, ⊎-elim}
 use mathlib.Core.Path.{_≡_, refl, sym, ap, _∙_}

@@ -1,4 +1,4 @@
--- Laws of the fates of gathered octets. Assumes nothing.
+-- Laws of the fates of gathered octets.
 use mathlib.Core.Bool.{true, cond}
 use mathlib.Core.Path.{_≡_, sym, ap, ap₂, subst, _∙_}
 use mathlib.Core.List.{List, [], _∷_, _++_, append-assoc}

@@ -1,4 +1,4 @@
--- What octets add to a piece. Assumes nothing.
+-- What octets add to a piece.
 use mathlib.Core.Bool.{Bool, true, false}
 use mathlib.Core.Path.{_≡_, ap, _∙_}
 use mathlib.Core.List.{List, [], _∷_, _++_, append-nil, foldl, foldl-append}

@@ -1,4 +1,4 @@
--- Laws of reading: what a fate's tag tells, and a call's outcome octet by octet, as the code's loop goes. Assumes nothing.
+-- Laws of reading: what a fate's tag tells, and a call's outcome octet by octet, as the code's loop goes.
 use types.Run.{OneOf, miss}
 use denote.Enum.Declared.{tagOf}
 use mathlib.Core.Bool.{true, false}

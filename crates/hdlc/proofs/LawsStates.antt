@@ -1,4 +1,4 @@
--- The reader's state after each octet is the state of the piece after it. Assumes nothing.
+-- The reader's state after each octet is the state of the piece after it.
 use mathlib.Core.Bool.{Bool, true, false, cond, true≢false, false≢true}
 use mathlib.Core.Path.{_≡_, refl, sym, ap, ap₂, _∙_}
 use mathlib.Core.List.{List, [], _∷_, _++_, append-assoc, append-nil}

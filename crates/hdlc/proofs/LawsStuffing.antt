@@ -1,4 +1,4 @@
--- Octets as they are sent stand for themselves and hold no flag. Assumes nothing.
+-- Octets as they are sent stand for themselves and hold no flag.
 use mathlib.Core.Bool.{Bool, true, false, cond}
 use mathlib.Core.Path.{_≡_, refl, sym, ap, _∙_}
 use mathlib.Core.List.{List, [], _∷_, _++_, append-assoc, append-nil}

@@ -1,4 +1,4 @@
--- PROMISE: the reader's rules are decided by their test and kept by every octet and every call. Assumes nothing.
+-- PROMISE: the reader's rules are decided by their test and kept by every octet and every call.
 use mathlib.Core.Bool.{true, true≢false, false≢true}
 use mathlib.Core.Path.{_≡_, sym, ap, _∙_}
 use mathlib.Core.List.{List}

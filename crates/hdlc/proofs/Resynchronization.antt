@@ -1,6 +1,6 @@
 -- PROMISE: a flag ends whatever was open. Whatever a reader holds, and whatever stands in its assembly buffer of 1,302 octets or more, 7E
 -- and then the frame of a body give first the fate of what was open, if it has one, and then fate 1 where the body's top two header bits
--- are 10 and fate 6 where not, with that body at the front of the buffer. Assumes nothing.
+-- are 10 and fate 6 where not, with that body at the front of the buffer.
 use mathlib.Core.Bool.{true, false, cond}
 use mathlib.Core.Path.{_≡_, refl, sym, ap, _∙_}
 use mathlib.Core.List.{List, [], _∷_, _++_, append-nil, append-assoc}

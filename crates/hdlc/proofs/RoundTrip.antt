@@ -1,6 +1,6 @@
 -- PROMISE: a frame that was written is read back. A fresh reader with any assembly buffer of 1,302 octets or more reads a body's frame to
 -- its last flag, with fate 1 where the top two header bits are 10 and fate 6 where not, and leaves body and check at the front of the
--- buffer; the frame's octets alone tell the same fate, with the body where it is 1, and leave nothing unfinished. Assumes nothing.
+-- buffer; the frame's octets alone tell the same fate, with the body where it is 1, and leave nothing unfinished.
 use mathlib.Core.Path.{_≡_, refl, sym, ap, _∙_}
 use mathlib.Core.List.{List, [], _∷_, _++_}
 use Prim.Native.Nat.{ℕ, suc, _+_, _-_, _≤_}

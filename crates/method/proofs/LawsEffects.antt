@@ -1,4 +1,4 @@
--- A command has an effect on the whole box only where it sets the power state. Assumes nothing.
+-- A command has an effect on the whole box only where it sets the power state.
 use mathlib.Core.Path.{_≡_, refl}
 use mathlib.Core.List.{List}
 use Prim.Native.Nat.{ℕ, suc, _%_}

@@ -1,4 +1,4 @@
--- Laws of ports that are inserted and removed. Assumes nothing.
+-- Laws of ports that are inserted and removed.
 use mathlib.Core.Path.{_≡_, refl, sym, ap, _∙_}
 use mathlib.Core.Bool.{Bool, true, false, not}
 use mathlib.Core.List.{List, [], _∷_, _++_}

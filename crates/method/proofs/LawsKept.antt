@@ -1,5 +1,4 @@
 -- A command leaves a link that keeps its rules, with the last status that it had, and refuses with a status that a link can hold.
--- Assumes nothing.
 use mathlib.Core.Path.{_≡_, refl, sym, _∙_}
 use mathlib.Core.Bool.{Bool, true, false, not}
 use mathlib.Core.List.{List, _++_}

@@ -1,4 +1,4 @@
--- Laws of the numbers that payloads hold. Assumes nothing.
+-- Laws of the numbers that payloads hold.
 use mathlib.Core.Path.{_≡_, ap}
 use mathlib.Core.Bool.{true}
 use mathlib.Core.List.{List}

@@ -1,5 +1,5 @@
 -- PROMISE: "66 to 1 while 65 is 0, and 65 to 0 while 66 is 1, are 4": under the state rules these two cases are exactly those in which the
--- changed numbers would have the stack up without the interface, which is the one test that the code makes. Assumes nothing.
+-- changed numbers would have the stack up without the interface, which is the one test that the code makes.
 use mathlib.Core.Path.{_≡_, refl, sym, _∙_}
 use mathlib.Core.Bool.{Bool, true, false, not, _&&_, _||_, and-comm}
 use mathlib.Core.List.{List}

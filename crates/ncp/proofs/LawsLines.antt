@@ -1,4 +1,4 @@
--- Laws of lines: octet by octet, and their length. Assumes nothing.
+-- Laws of lines: octet by octet, and their length.
 use mathlib.Core.Path.{_≡_, refl, ap}
 use mathlib.Core.List.{List, [], _∷_, _++_}
 use Prim.Native.Nat.{ℕ, _+_, _*_, _-_, _≤_, _<_}

@@ -1,4 +1,4 @@
--- Laws of a frame that is read back. Assumes nothing.
+-- Laws of a frame that is read back.
 use types.Run.{OneOf}
 use denote.Enum.Declared.{tagOf}
 use mathlib.Core.Path.{_≡_, sym, ap, _∙_}

@@ -1,4 +1,4 @@
--- Laws of one turn, by the cases of the receiving call: what was written is read back as the engine's reply, and fits. Assumes nothing.
+-- Laws of one turn, by the cases of the receiving call: what was written is read back as the engine's reply, and fits.
 use mathlib.Core.Bool.{false}
 use mathlib.Core.Path.{_≡_, refl, ap, _∙_}
 use mathlib.Core.List.{List}

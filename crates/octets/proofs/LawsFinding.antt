@@ -1,4 +1,4 @@
--- Laws of looking for an octet. Assumes nothing.
+-- Laws of looking for an octet.
 use mathlib.Core.Path.{_≡_}
 use mathlib.Core.List.{List, [], _∷_}
 use Prim.Native.Nat.{ℕ, suc, _+_, _≤_, _<_}

@@ -1,4 +1,4 @@
--- Laws of lists that the code's places and parts ask for. Assumes nothing.
+-- Laws of lists that the code's places and parts ask for.
 use mathlib.Core.Path.{_≡_, ap}
 use mathlib.Core.List.{List, [], _∷_, _++_}
 use Prim.Native.Nat.{ℕ, zero, suc, _+_, _-_, _<_}

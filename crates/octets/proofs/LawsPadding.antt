@@ -1,4 +1,4 @@
--- Laws of lists held in arrays. Assumes nothing.
+-- Laws of lists held in arrays.
 use mathlib.Core.Path.{_≡_, refl, sym, ap, _∙_}
 use mathlib.Core.Bool.{true}
 use mathlib.Core.List.{List, _++_}

@@ -1,4 +1,4 @@
--- Lists that stand end to end give what each gives, end to end. Assumes nothing.
+-- Lists that stand end to end give what each gives, end to end.
 use mathlib.Core.Path.{_≡_, refl, sym, ap, _∙_}
 use mathlib.Core.List.{List, [], _∷_, _++_, append-assoc, foldl}
 use Rattle.octets.specs.Runs.{each, emitted}

@@ -1,4 +1,4 @@
--- Laws of a test at every place: how a loop goes on, stops and ends, and what it tells of a place. Assumes nothing.
+-- Laws of a test at every place: how a loop goes on, stops and ends, and what it tells of a place.
 use mathlib.Core.Path.{_≡_, refl, _∙_}
 use mathlib.Core.Bool.{Bool, true, false, _&&_}
 use Prim.Native.Nat.{ℕ, zero, suc, _+_, _-_, _≤_, _<_}

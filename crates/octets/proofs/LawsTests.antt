@@ -1,4 +1,4 @@
--- Proofs by cases on a test, and tests joined. Assumes nothing.
+-- Proofs by cases on a test, and tests joined.
 use mathlib.Core.Path.{_≡_, refl}
 use mathlib.Core.Bool.{Bool, true, false, cond, _&&_}
 use Prim.Native.Nat.{ℕ}

@@ -1,4 +1,4 @@
--- Writers chain: one that goes on where another stopped wrote both. Assumes nothing.
+-- Writers chain: one that goes on where another stopped wrote both.
 use mathlib.Core.Path.{_≡_, ap, ap₂, _∙_}
 use mathlib.Core.List.{List, [], _∷_, _++_}
 use Prim.Native.Nat.{ℕ, suc, _+_, _<_, _≤_}

@@ -1,5 +1,4 @@
 -- PROMISE: little-endian octets are read back as the number written, and written back as the octets read; once over the width.
--- Assumes nothing.
 use mathlib.Core.Path.{_≡_, refl, ap, ap₂, _∙_}
 use mathlib.Core.List.{List, [], _∷_}
 use Prim.Native.Nat.{ℕ, zero, suc, _+_, _*_, _/_, _%_, _^_, _<_}

@@ -1,4 +1,4 @@
--- Laws of packed integers, over the number of octets. Assumes nothing.
+-- Laws of packed integers, over the number of octets.
 use mathlib.Core.Path.{_≡_, refl, ap}
 use mathlib.Core.Bool.{false}
 use mathlib.Core.List.{List, [], _∷_}

@@ -1,5 +1,5 @@
 -- PROMISE: each number has one spelling. Whatever is read is what is written for the number read, goes on and stays within the list; the
--- answer depends on the at most three octets from the place; and a place at or past the end is unreadable. Assumes nothing.
+-- answer depends on the at most three octets from the place; and a place at or past the end is unreadable.
 use mathlib.Core.Path.{_≡_, sym, ap, _∙_}
 use mathlib.Core.List.{List, [], _∷_, _++_}
 use Prim.Native.Nat.{ℕ, zero, suc, _+_, _*_, _-_, _/_, _%_, _^_, _<_, _≤_}

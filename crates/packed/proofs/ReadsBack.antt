@@ -1,4 +1,4 @@
--- PROMISE: a packed integer takes 1 to 3 octets, and one that was written is read back, whatever stands around it. Assumes nothing.
+-- PROMISE: a packed integer takes 1 to 3 octets, and one that was written is read back, whatever stands around it.
 use mathlib.Core.Path.{_≡_, ap₂}
 use mathlib.Core.Bool.{false}
 use mathlib.Core.List.{List, _++_}

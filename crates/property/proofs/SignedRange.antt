@@ -1,4 +1,4 @@
--- PROMISE: the transmit power's range is 01's, a signed octet from -40 to 8. Assumes nothing.
+-- PROMISE: the transmit power's range is 01's, a signed octet from -40 to 8.
 use mathlib.Core.Path.{_≡_}
 use mathlib.Core.Bool.{Bool, false, cond}
 use Prim.Native.Nat.{ℕ, _-_}

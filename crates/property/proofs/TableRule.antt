@@ -1,5 +1,5 @@
 -- PROMISE: every row of the two tables keeps its rule, each by one test that is computed over the whole table; what is looked up is the
--- row of that property, and keeps the rule. Assumes nothing.
+-- row of that property, and keeps the rule.
 use mathlib.Core.Path.{_≡_, refl, sym, _∙_}
 use mathlib.Core.Bool.{Bool, true, false, cond, not, _&&_}
 use mathlib.Core.List.{List, [], _∷_}

@@ -1,4 +1,4 @@
--- How long a reply is, from a state that keeps its rules. Assumes nothing.
+-- How long a reply is, from a state that keeps its rules.
 use mathlib.Core.Path.{_≡_, refl}
 use mathlib.Core.Bool.{true}
 use mathlib.Core.List.{List, [], _∷_}

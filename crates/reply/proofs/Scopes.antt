@@ -1,5 +1,5 @@
 -- PROMISE: the table's scope is whose value it is. What a row of the device's scope holds is the same on every link; what a row of a
--- link's scope holds depends on that link alone. Assumes nothing.
+-- link's scope holds depends on that link alone.
 use mathlib.Core.Path.{_≡_, refl, sym, ap, _∙_}
 use mathlib.Core.Bool.{true, false}
 use mathlib.Core.List.{_∷_, [], _++_}

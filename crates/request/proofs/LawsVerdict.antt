@@ -1,4 +1,4 @@
--- What a verdict tells of the body, and which octets give which verdict. Assumes nothing.
+-- What a verdict tells of the body, and which octets give which verdict.
 use mathlib.Core.Path.{_≡_, refl, _∙_}
 use mathlib.Core.Bool.{true}
 use mathlib.Core.List.{List}

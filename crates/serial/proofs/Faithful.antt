@@ -1,7 +1,7 @@
 -- PROMISE: a history does what its octets say. For every history its replies are the frames of the engine's replies to the checked
 -- bodies, one to each, in order; the octets that its calls say they read are those of 01, Whole histories; the box at its end is the
 -- engine's over the checked bodies. And for one more call, which may be any: its number, its count and the octets that it writes are
--- those of the octets, so a reply is written by the call that reads its frame's closing flag, and refusal 11 never comes. Assumes nothing.
+-- those of the octets, so a reply is written by the call that reads its frame's closing flag, and refusal 11 never comes.
 use mathlib.Core.Logic.{_≢_}
 use mathlib.Core.Path.{_≡_, refl, sym, ap, _∙_}
 use mathlib.Core.List.{List, [], map}

@@ -1,4 +1,4 @@
--- A history's calls, one by one and all: what stands between two calls, told by the octets read so far. Assumes nothing.
+-- A history's calls, one by one and all: what stands between two calls, told by the octets read so far.
 use mathlib.Core.Path.{_≡_, refl, sym, ap, ap₂, _∙_}
 use mathlib.Core.Bool.{true, false}
 use mathlib.Core.List.{List, [], _∷_, _++_, map, map-append, foldl}

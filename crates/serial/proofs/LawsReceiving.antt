@@ -1,4 +1,4 @@
--- Laws of one receiving call. Assumes nothing.
+-- Laws of one receiving call.
 use mathlib.Core.Path.{_≡_, refl, sym, _∙_}
 use mathlib.Core.Bool.{true, false, cond}
 use mathlib.Core.List.{List, [], _∷_, map, append-nil}

@@ -1,7 +1,7 @@
 -- PROMISE: the first frame after any noise is answered. If what a history's calls read, laid end to end, is any octets xs, then the frame
 -- of a body b of 2 to 1,300 octets with top bits 10, then any octets ys, then the checked bodies are those of xs and the frame's first
 -- flag, then b, then those of ys, and b's reply is the engine's, on the box after the bodies before it. The same where 7E stands between
--- xs and the frame, and the frame comes last. Assumes nothing.
+-- xs and the frame, and the frame comes last.
 use mathlib.Core.Path.{_≡_, refl, sym, ap, subst, _∙_}
 use mathlib.Core.List.{List, [], _∷_, _++_, append-assoc, append-nil, map}
 use Prim.Native.Nat.{ℕ, _/_}

@@ -1,6 +1,6 @@
 -- PROMISE: links are separate, over whole histories (00, demand 3). Take any settings, good or bad, any two histories from them, and any
 -- link k of 0 to 3. If link k's merged sequence is the same in both, then so are its replies, as bodies and as octets written, in the
--- same order, and at the end its values in every row of the table and its last status. Assumes nothing.
+-- same order, and at the end its values in every row of the table and its last status.
 use mathlib.Core.Path.{_≡_, refl, sym, ap, _∙_}
 use mathlib.Core.Bool.{cond}
 use mathlib.Core.List.{[], _∷_, map}

@@ -1,6 +1,6 @@
 -- PROMISE: the premise of `separate` can be met. Two histories of link 1: one with noise, cuts in a frame and in an escape, both refusals,
 -- joined frames and settings of link 0, the other clean. Their octets and bodies differ, and link 1's merged sequence is the same six
--- items, by computation. Assumes nothing.
+-- items, by computation.
 use mathlib.Core.Path.{_≡_, refl, sym, _∙_}
 use mathlib.Core.List.{List, [], _∷_}
 use Prim.Native.Nat.{ℕ}

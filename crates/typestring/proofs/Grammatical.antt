@@ -1,5 +1,5 @@
 -- PROMISE: the strings that are accepted are those of the grammar. Whatever tree is found prints to the string and keeps the rules; and
--- every tree that keeps them and prints in at most 64 octets is found. Assumes nothing.
+-- every tree that keeps them and prints in at most 64 octets is found.
 use mathlib.Core.Path.{_≡_, refl, sym, ap, _∙_}
 use mathlib.Core.Bool.{Bool, true, false}
 use mathlib.Core.List.{List, [], _∷_, _++_, append-assoc, append-nil}

@@ -1,4 +1,4 @@
--- Laws of brackets in type strings: where the last of so many open ones is closed, and what an item's letter tells. Assumes nothing.
+-- Laws of brackets in type strings: where the last of so many open ones is closed, and what an item's letter tells.
 use types.Run.{OneOf, miss}
 use denote.Enum.Declared.{tagOf}
 use mathlib.Core.Bool.{Bool, true, false, cond}

@@ -1,4 +1,4 @@
--- Laws of the check: what the parse is on each way through it, from a place on. Assumes nothing.
+-- Laws of the check: what the parse is on each way through it, from a place on.
 use mathlib.Core.Bool.{Bool, true, false, cond}
 use mathlib.Core.List.{List, [], _∷_}
 use mathlib.Core.Path.{_≡_, refl, ap, _∙_}

@@ -1,4 +1,4 @@
--- Laws of printed trees. Assumes nothing.
+-- Laws of printed trees.
 use mathlib.Core.Path.{_≡_, refl}
 use mathlib.Core.Bool.{Bool, true, false}
 use mathlib.Core.List.{List, [], _∷_, _++_}

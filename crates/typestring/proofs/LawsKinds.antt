@@ -1,4 +1,4 @@
--- What a letter's kind tells of the letter. Assumes nothing.
+-- What a letter's kind tells of the letter.
 use mathlib.Core.Path.{_≡_}
 use Prim.Native.Nat.{ℕ, _<_}
 use native.Mathlib.Omega.{arith}

@@ -1,4 +1,4 @@
--- Laws of the parse: what follows a part or an item is shorter, and the bound on the items asked for does not matter. Assumes nothing.
+-- Laws of the parse: what follows a part or an item is shorter, and the bound on the items asked for does not matter.
 use mathlib.Core.Bool.{Bool, true, false, cond}
 use mathlib.Core.List.{List, [], _∷_}
 use mathlib.Core.Path.{_≡_, refl, ap, _∙_}

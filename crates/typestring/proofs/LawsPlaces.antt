@@ -1,5 +1,4 @@
 -- Trees that are printed at a place of a string: how a part begins, what an item's first octet tells, and what is in its brackets.
--- Assumes nothing.
 use mathlib.Core.Path.{_≡_, refl, sym, ap, _∙_}
 use mathlib.Core.Bool.{true, false}
 use mathlib.Core.List.{List, [], _∷_, _++_, append-assoc}

@@ -1,4 +1,4 @@
--- What setup returns for these settings. Assumes nothing.
+-- What setup returns for these settings.
 use mathlib.Core.Path.{ap}
 use borrow.Author.Needs.{needs}
 use Rattle.engine.specs.Marked.{freshBox}

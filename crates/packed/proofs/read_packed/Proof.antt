@@ -1,4 +1,4 @@
--- The invariant: what the octets from `next` on stand for, joined to what is read, is the answer. Assumes nothing.
+-- The invariant: what the octets from `next` on stand for, joined to what is read, is the answer.
 use mathlib.Core.Path.{_≡_, sym}
 use Prim.Native.Nat.{ℕ, suc, _+_, _*_, _-_, _^_, _<_, _≤_}
 use native.Mathlib.Omega.{arith}

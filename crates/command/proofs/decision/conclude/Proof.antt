@@ -1,4 +1,4 @@
--- A reply has at most 61 octets, so that step 9 refuses none. Assumes nothing.
+-- A reply has at most 61 octets, so that step 9 refuses none.
 use mathlib.Core.Path.{refl}
 use native.Mathlib.Omega.{arith}
 use borrow.Author.Needs.{needs}

@@ -1,4 +1,4 @@
--- A verdict that a command reaches a property tells that the row keeps the table's rule and that the payload starts in the body. Assumes nothing.
+-- A verdict that a command reaches a property tells that the row keeps the table's rule and that the payload starts in the body.
 use mathlib.Core.Path.{refl, sym, _∙_}
 use native.Mathlib.Omega.{arith}
 use borrow.Author.Needs.{needs}

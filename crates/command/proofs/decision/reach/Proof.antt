@@ -1,4 +1,4 @@
--- What a command leaves keeps the link's rule, and its reply has at most 33 octets of content. Assumes nothing.
+-- What a command leaves keeps the link's rule, and its reply has at most 33 octets of content.
 use borrow.Author.Needs.{needs}
 use Rattle.property.proofs.TableRule.{slot-below}
 use Rattle.device.proofs.StateRules.{link-from}

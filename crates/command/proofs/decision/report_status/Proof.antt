@@ -1,4 +1,4 @@
--- The link is the one given, with another status. Assumes nothing.
+-- The link is the one given, with another status.
 use mathlib.Core.Path.{refl}
 use borrow.Author.Needs.{needs}
 use Rattle.command.specs.Decide.{reported}

@@ -1,4 +1,4 @@
--- Behind the part's end no octet is tested, and there `getD` gives 0. Assumes nothing.
+-- Behind the part's end no octet is tested, and there `getD` gives 0.
 use mathlib.Core.Logic.{⊎-elim}
 use Prim.Native.Nat.{_≤_}
 use native.Mathlib.Omega.{arith}

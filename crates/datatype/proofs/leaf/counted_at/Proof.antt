@@ -1,4 +1,4 @@
--- The tests are those of `countedAt`. Assumes nothing.
+-- The tests are those of `countedAt`.
 use borrow.Author.Needs.{needs}
 use borrow.Author.Tests.{lt-ltb, le-ltb}
 use Rattle.datatype.specs.Leaves.{countedAt}

@@ -1,4 +1,4 @@
--- The test is that of `fixedAt`. Assumes nothing.
+-- The test is that of `fixedAt`.
 use borrow.Author.Needs.{needs}
 use borrow.Author.Tests.{lt-ltb, le-ltb}
 use Rattle.datatype.specs.Leaves.{fixedAt}

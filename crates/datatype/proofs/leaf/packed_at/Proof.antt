@@ -1,4 +1,4 @@
--- Each arm is a clause of `numberSpan`; a reading goes on, so that it has a size. Assumes nothing.
+-- Each arm is a clause of `numberSpan`; a reading goes on, so that it has a size.
 use mathlib.Core.Path.{sym, _∙_}
 use native.Mathlib.Omega.{arith}
 use borrow.Author.Needs.{needs}

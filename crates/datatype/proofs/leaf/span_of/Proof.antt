@@ -1,4 +1,4 @@
--- Each arm is a clause of `spanOf`. Assumes nothing.
+-- Each arm is a clause of `spanOf`.
 use borrow.Author.Needs.{needs}
 use Rattle.datatype.specs.Leaves.{spanOf}
 use Rattle.datatype.proofs.leaf.span_of.Statement.{statement}

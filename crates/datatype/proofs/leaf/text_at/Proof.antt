@@ -1,4 +1,4 @@
--- The zero was found behind as many octets as stand before it. Assumes nothing.
+-- The zero was found behind as many octets as stand before it.
 use mathlib.Core.Path.{ap}
 use Prim.Native.Nat.{_+_}
 use native.Mathlib.Omega.{arith}

@@ -1,4 +1,4 @@
--- Each arm is a clause of `leafReads`; a leaf's three numbers are put one after the other. Assumes nothing.
+-- Each arm is a clause of `leafReads`; a leaf's three numbers are put one after the other.
 use mathlib.Core.Path.{refl}
 use native.Mathlib.Numerals.{add-one, add-two}
 use native.Mathlib.Omega.{arith}

@@ -1,4 +1,4 @@
--- Behind the list's end `set` stores nothing either. Assumes nothing.
+-- Behind the list's end `set` stores nothing either.
 use mathlib.Core.Path.{sym}
 use borrow.Author.Needs.{needs}
 use lib.Seq.{set-out}

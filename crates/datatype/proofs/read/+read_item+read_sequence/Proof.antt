@@ -1,6 +1,5 @@
 -- The loops' invariants: whatever tree is printed at the start, what is left of its reading, with the list and the leaves so far, gives its
 -- answer. The measures are made of the octets left and the brackets that may still be opened; the loop over an array's elements has its own.
--- Assumes nothing.
 use mathlib.Core.Bool.{false}
 use mathlib.Core.Path.{_≡_, sym, _∙_}
 use Prim.Native.Nat.{ℕ, _+_, _*_, _-_, _≤_, _<_}

@@ -1,4 +1,4 @@
--- Each arm is a clause of `fillingTo`, and the test is its test. Assumes nothing.
+-- Each arm is a clause of `fillingTo`, and the test is its test.
 use native.Mathlib.Omega.{arith}
 use borrow.Author.Needs.{needs}
 use borrow.Author.Tests.{eq-eqb, ne-eqb}

@@ -1,4 +1,4 @@
--- A first reading, on none of the list, decides the answer; a second one fills the list. Assumes nothing.
+-- A first reading, on none of the list, decides the answer; a second one fills the list.
 use mathlib.Core.Path.{sym, _∙_}
 use mathlib.Core.List.{[]}
 use native.Mathlib.Omega.{arith}

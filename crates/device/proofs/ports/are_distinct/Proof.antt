@@ -1,4 +1,4 @@
--- The invariant: the ports from `at` on are distinct if all are. Assumes nothing.
+-- The invariant: the ports from `at` on are distinct if all are.
 use mathlib.Core.Path.{_≡_, refl, sym, _∙_}
 use Prim.Native.Nat.{_-_, _≤_}
 use native.Mathlib.Omega.{arith}

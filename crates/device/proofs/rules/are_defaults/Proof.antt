@@ -1,4 +1,4 @@
--- The invariant: what is left is as the whole. Assumes nothing.
+-- The invariant: what is left is as the whole.
 use borrow.Author.Needs.{needs}
 use borrow.Author.Tests.{eq-eqb, ne-eqb}
 use mathlib.Core.Path.{_≡_, refl, sym, _∙_}

@@ -1,4 +1,4 @@
--- The lengths are those of the types; each return is a test of the definition. Assumes nothing.
+-- The lengths are those of the types; each return is a test of the definition.
 use borrow.Author.Needs.{needs}
 use borrow.Author.Tests.{eq-eqb, ne-eqb}
 use mathlib.Core.Path.{_≡_, sym, _∙_}

@@ -1,4 +1,4 @@
--- The lengths are those of the types; each return is a test of the definition. Assumes nothing.
+-- The lengths are those of the types; each return is a test of the definition.
 use native.Mathlib.Omega.{arith}
 use borrow.Author.Needs.{needs}
 use borrow.Author.Tests.{le-leb, lt-leb}

@@ -1,4 +1,4 @@
--- The invariant: what is left is as the whole. Assumes nothing.
+-- The invariant: what is left is as the whole.
 use borrow.Author.Needs.{needs}
 use mathlib.Core.Path.{_≡_, refl, sym, _∙_}
 use Prim.Native.Nat.{_-_, _≤_}

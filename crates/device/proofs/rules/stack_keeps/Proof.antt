@@ -1,4 +1,4 @@
--- The code's test is the definition's. Assumes nothing.
+-- The code's test is the definition's.
 use borrow.Author.Needs.{needs}
 use mathlib.Core.Path.{refl}
 use Rattle.device.specs.Rules.{stackRule}

@@ -1,4 +1,4 @@
--- Each return is a test of the definition. Assumes nothing.
+-- Each return is a test of the definition.
 use borrow.Author.Needs.{needs}
 use mathlib.Core.Path.{sym, _∙_}
 use Rattle.device.specs.Rules.{textRule}

@@ -1,4 +1,4 @@
--- Eight octets fill eight zeros. Assumes nothing.
+-- Eight octets fill eight zeros.
 use borrow.Author.Needs.{needs}
 use mathlib.Core.Path.{_∙_}
 use mathlib.Core.List.{append-nil}

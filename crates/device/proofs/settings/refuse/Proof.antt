@@ -1,4 +1,4 @@
--- The code's settings are the definition's. Assumes nothing.
+-- The code's settings are the definition's.
 use borrow.Author.Needs.{needs}
 use Rattle.octets.specs.Padding.{pad}
 use Rattle.device.specs.Setup.{refusal}

@@ -1,4 +1,4 @@
--- Where the lengths are right, the settings' rule decides as setup does. Assumes nothing.
+-- Where the lengths are right, the settings' rule decides as setup does.
 use borrow.Author.Needs.{needs}
 use mathlib.Core.Path.{sym, _∙_}
 use native.Mathlib.Omega.{arith}

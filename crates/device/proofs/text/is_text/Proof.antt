@@ -1,4 +1,4 @@
--- Each return is a test of the definition. Assumes nothing.
+-- Each return is a test of the definition.
 use borrow.Author.Needs.{needs}
 use borrow.Author.Tests.{le-leb, lt-leb}
 use native.Mathlib.Nat.{zero-add}

@@ -1,4 +1,4 @@
--- Each arm is a clause of the definition. Assumes nothing.
+-- Each arm is a clause of the definition.
 use borrow.Author.Needs.{needs}
 use Rattle.device.specs.View.{powerAfter}
 use Rattle.device.proofs.view.power_after.Statement.{statement}

@@ -1,4 +1,4 @@
--- Each arm is a clause of the definition. Assumes nothing.
+-- Each arm is a clause of the definition.
 use borrow.Author.Needs.{needs}
 use Rattle.engine.specs.Engine.{affect}
 use Rattle.engine.proofs.body.affected.Statement.{statement}

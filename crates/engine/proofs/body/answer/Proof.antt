@@ -1,4 +1,4 @@
--- Link k of a box that keeps its rules keeps its own, where k is set up. Assumes nothing.
+-- Link k of a box that keeps its rules keeps its own, where k is set up.
 use mathlib.Core.Path.{refl}
 use native.Mathlib.Omega.{arith}
 use borrow.Author.Needs.{needs}

@@ -1,4 +1,4 @@
--- The invariant: the register after what is left is the register after the whole. Assumes nothing.
+-- The invariant: the register after what is left is the register after the whole.
 use mathlib.Core.Path.{_≡_, refl, sym, ap, _∙_}
 use Prim.Native.Nat.{_+_, _-_, _≤_}
 use native.Mathlib.Omega.{arith}

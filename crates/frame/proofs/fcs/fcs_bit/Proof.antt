@@ -1,4 +1,4 @@
--- Each way out has the test that `fcsBit` makes. Assumes nothing.
+-- Each way out has the test that `fcsBit` makes.
 use borrow.Author.Tests.{eq-eqb, ne-eqb}
 use Rattle.frame.specs.Fcs.{fcsBit}
 use Rattle.frame.proofs.fcs.fcs_bit.Statement.{statement}

@@ -1,4 +1,4 @@
--- The invariant: the bits still to go, from the register as it is, give the eight bits from the first. Assumes nothing.
+-- The invariant: the bits still to go, from the register as it is, give the eight bits from the first.
 use mathlib.Core.Path.{_≡_, refl, sym, ap, _∙_}
 use Prim.Native.Nat.{_+_, _-_, _≤_}
 use native.Mathlib.Omega.{arith}

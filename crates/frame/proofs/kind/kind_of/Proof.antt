@@ -1,4 +1,4 @@
--- Each arm has the numbers that `kindOf` tests for, and the last arm none of them. Assumes nothing.
+-- Each arm has the numbers that `kindOf` tests for, and the last arm none of them.
 use mathlib.Core.Logic.{inl, inr, ⊎-elim}
 use mathlib.Core.Path.{sym, ap}
 use borrow.Author.Tests.{ne-eqb}

@@ -1,4 +1,4 @@
--- The octet's kind gives the form in which it is sent; an escaped one is two writers in a row. Assumes nothing.
+-- The octet's kind gives the form in which it is sent; an escaped one is two writers in a row.
 use mathlib.Core.Path.{_≡_, ap}
 use mathlib.Core.List.{[], _∷_}
 use native.Mathlib.Omega.{arith}

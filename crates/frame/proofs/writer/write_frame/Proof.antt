@@ -1,4 +1,4 @@
--- Four writers in a row write the frame's parts in order. Assumes nothing.
+-- Four writers in a row write the frame's parts in order.
 use mathlib.Core.Path.{_≡_, ap, _∙_}
 use native.Mathlib.Omega.{arith}
 use borrow.Author.Needs.{needs}

@@ -1,4 +1,4 @@
--- The tag of every fate but `Unfinished` tells that it is decided. Assumes nothing.
+-- The tag of every fate but `Unfinished` tells that it is decided.
 use borrow.Author.Needs.{needs}
 use Rattle.hdlc.proofs.LawsReading.{tag-decided}
 use Rattle.hdlc.proofs.reader.decides.Statement.{statement}

@@ -1,4 +1,4 @@
--- Each way out has the tests that `flagFate` makes. Assumes nothing.
+-- Each way out has the tests that `flagFate` makes.
 use mathlib.Core.Path.{sym, _∙_}
 use native.Mathlib.Omega.{arith}
 use borrow.Author.Tests.{eq-eqb, ne-eqb}

@@ -1,4 +1,4 @@
--- Each way out has the test that `gather` makes. Assumes nothing.
+-- Each way out has the test that `gather` makes.
 use borrow.Author.Tests.{lt-ltb, le-ltb}
 use Rattle.hdlc.specs.Reading.{gather}
 use borrow.Author.Needs.{needs}

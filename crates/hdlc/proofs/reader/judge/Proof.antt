@@ -1,4 +1,4 @@
--- Each way out has the tests that `judged` makes. Assumes nothing.
+-- Each way out has the tests that `judged` makes.
 use mathlib.Core.Bool.{cond}
 use mathlib.Core.Path.{_≡_, sym, ap₂, _∙_}
 use Prim.Native.Nat.{_-_, _/_}

@@ -1,4 +1,4 @@
--- The invariant: the outcome of what is left, `at` octets later, is that of the whole, and the reader keeps its rules. Assumes nothing.
+-- The invariant: the outcome of what is left, `at` octets later, is that of the whole, and the reader keeps its rules.
 use mathlib.Core.Bool.{true}
 use mathlib.Core.Path.{_≡_, refl, sym, ap, _∙_}
 use Prim.Native.Nat.{_-_, _≤_}

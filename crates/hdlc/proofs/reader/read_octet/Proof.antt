@@ -1,4 +1,4 @@
--- Each arm has the kind by which the definitions go. Assumes nothing.
+-- Each arm has the kind by which the definitions go.
 use mathlib.Core.Path.{sym, _∙_}
 use borrow.Author.Needs.{needs}
 use Rattle.frame.proofs.LawsKinds.{kind-tests}

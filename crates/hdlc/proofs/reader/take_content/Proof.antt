@@ -1,4 +1,4 @@
--- Each way out has the tests that `content` makes. Assumes nothing.
+-- Each way out has the tests that `content` makes.
 use mathlib.Core.Path.{_∙_}
 use Rattle.hdlc.specs.Reading.{content}
 use borrow.Author.Needs.{needs}

@@ -1,4 +1,4 @@
--- What stands before the place and what stands behind it, one behind the other. Assumes nothing.
+-- What stands before the place and what stands behind it, one behind the other.
 use mathlib.Core.Path.{sym}
 use Prim.Native.Nat.{_+_}
 use native.Mathlib.Omega.{arith}

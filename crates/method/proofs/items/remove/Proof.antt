@@ -1,4 +1,4 @@
--- Each return is a branch of the definition; the ports held are even octets, so a place below their count is a port's. Assumes nothing.
+-- Each return is a branch of the definition; the ports held are even octets, so a place below their count is a port's.
 use mathlib.Core.Path.{sym}
 use native.Mathlib.Omega.{arith}
 use borrow.Author.Needs.{needs}

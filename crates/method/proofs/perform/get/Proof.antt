@@ -1,4 +1,4 @@
--- Each return is a branch of the definition. Assumes nothing.
+-- Each return is a branch of the definition.
 use native.Mathlib.Omega.{arith}
 use borrow.Author.Needs.{needs}
 use borrow.Author.Tests.{eq-eqb, ne-eqb}

@@ -1,4 +1,4 @@
--- Each arm is a clause of the definition. Assumes nothing.
+-- Each arm is a clause of the definition.
 use borrow.Author.Needs.{needs}
 use Rattle.method.specs.Perform.{perform}
 use Rattle.method.proofs.perform.perform_on.Statement.{statement}

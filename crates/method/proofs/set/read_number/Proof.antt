@@ -1,4 +1,4 @@
--- Each return is a branch of the definition; the payload is read whole. Assumes nothing.
+-- Each return is a branch of the definition; the payload is read whole.
 use mathlib.Core.Path.{_∙_}
 use borrow.Author.Needs.{needs}
 use borrow.Author.Tests.{eq-eqb, ne-eqb}

@@ -1,4 +1,4 @@
--- Each arm is a clause of the definition; the row's rule bounds the slot. Assumes nothing.
+-- Each arm is a clause of the definition; the row's rule bounds the slot.
 use borrow.Author.Needs.{needs}
 use Rattle.property.proofs.TableRule.{slot-below}
 use Rattle.method.specs.Perform.{setKind}

@@ -1,4 +1,4 @@
--- Each return is a branch of the definition; the place of the first zero is how many octets stand before it. Assumes nothing.
+-- Each return is a branch of the definition; the place of the first zero is how many octets stand before it.
 use mathlib.Core.Path.{sym, _∙_}
 use mathlib.Core.List.{append-nil}
 use Prim.Native.Nat.{suc}

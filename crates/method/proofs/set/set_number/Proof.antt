@@ -1,4 +1,4 @@
--- Each return is a branch of the definition; the one test on the changed numbers is the definition's (StackAndInterface). Assumes nothing.
+-- Each return is a branch of the definition; the one test on the changed numbers is the definition's (StackAndInterface).
 use mathlib.Core.Path.{_≡_, sym, _∙_}
 use mathlib.Core.Bool.{true, not}
 use mathlib.Core.List.{List}

@@ -1,4 +1,4 @@
--- Each return is a branch of the definition; even octets are twice as many as their ports. Assumes nothing.
+-- Each return is a branch of the definition; even octets are twice as many as their ports.
 use mathlib.Core.List.{append-nil}
 use native.Mathlib.Omega.{arith}
 use borrow.Author.Needs.{needs}

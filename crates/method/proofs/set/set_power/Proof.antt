@@ -1,4 +1,4 @@
--- Each arm is a clause of the definition; a value of the power state fits an octet. Assumes nothing.
+-- Each arm is a clause of the definition; a value of the power state fits an octet.
 use mathlib.Core.Path.{refl, sym, _∙_}
 use native.Mathlib.Omega.{arith}
 use borrow.Author.Needs.{needs}

@@ -1,4 +1,4 @@
--- Each way out has the test that `separator` makes. Assumes nothing.
+-- Each way out has the test that `separator` makes.
 use borrow.Author.Needs.{needs}
 use borrow.Author.Tests.{eq-eqb, ne-eqb}
 use Rattle.ncp.specs.Lines.{digits, separator, shown}

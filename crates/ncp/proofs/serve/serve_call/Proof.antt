@@ -1,4 +1,4 @@
--- A turn's line fits its space, and what is gone on with is the turn's. Assumes nothing.
+-- A turn's line fits its space, and what is gone on with is the turn's.
 use mathlib.Core.Path.{refl, sym}
 use Prim.Native.Nat.{_≤_}
 use native.Mathlib.Omega.{arith}

@@ -1,4 +1,4 @@
--- What the reader gave is its equation. Assumes nothing.
+-- What the reader gave is its equation.
 use mathlib.Core.Path.{_≡_}
 use mathlib.Core.List.{List}
 use Prim.Native.Nat.{ℕ}

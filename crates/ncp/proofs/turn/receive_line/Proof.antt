@@ -1,4 +1,4 @@
--- The frame that was written is read back as the engine's reply, whose line fits. Assumes nothing.
+-- The frame that was written is read back as the engine's reply, whose line fits.
 use mathlib.Core.Path.{_≡_, refl, sym, _∙_}
 use Prim.Native.Nat.{_*_, _≤_}
 use native.Mathlib.Omega.{arith}

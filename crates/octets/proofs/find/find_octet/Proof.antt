@@ -1,4 +1,4 @@
--- The invariant: what is still before the octet, from `at` on, is what is before it in all. Assumes nothing.
+-- The invariant: what is still before the octet, from `at` on, is what is before it in all.
 use mathlib.Core.Path.{_≡_, refl}
 use Prim.Native.Nat.{_+_, _-_, _≤_}
 use native.Mathlib.Omega.{arith}

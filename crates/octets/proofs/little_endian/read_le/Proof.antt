@@ -1,4 +1,4 @@
--- The invariant: what is read so far is the number of the part's octets from i on. Assumes nothing.
+-- The invariant: what is read so far is the number of the part's octets from i on.
 use mathlib.Core.Path.{_≡_, ap, _∙_}
 use Prim.Native.Nat.{_+_, _-_, _≤_, _<_, _^_}
 use native.Mathlib.Omega.{arith}

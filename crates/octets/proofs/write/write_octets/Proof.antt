@@ -1,4 +1,4 @@
--- The invariant: what is left, put at the place reached, gives the whole. Assumes nothing.
+-- The invariant: what is left, put at the place reached, gives the whole.
 use mathlib.Core.Path.{_≡_, refl, sym, ap, _∙_}
 use Prim.Native.Nat.{_+_, _-_, _≤_}
 use native.Mathlib.Omega.{arith}

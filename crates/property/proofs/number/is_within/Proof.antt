@@ -1,4 +1,4 @@
--- Each return is a branch of the definition. Assumes nothing.
+-- Each return is a branch of the definition.
 use borrow.Author.Tests.{le-leb, lt-leb, lt-ltb, le-ltb}
 use Rattle.property.specs.Numbers.{within}
 use Rattle.property.proofs.number.is_within.Statement.{statement}

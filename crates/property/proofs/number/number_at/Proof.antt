@@ -1,4 +1,4 @@
--- The table's rule, by its computed test. Assumes nothing.
+-- The table's rule, by its computed test.
 use borrow.Author.Needs.{needs}
 use mathlib.Core.Path.{refl}
 use Rattle.property.specs.Numbers.{numbers}

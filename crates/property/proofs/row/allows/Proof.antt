@@ -1,4 +1,4 @@
--- Each arm is a clause of the definition. Assumes nothing.
+-- Each arm is a clause of the definition.
 use borrow.Author.Needs.{needs}
 use Rattle.property.specs.Rows.{allows}
 use Rattle.property.proofs.row.allows.Statement.{statement}

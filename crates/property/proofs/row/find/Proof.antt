@@ -1,4 +1,4 @@
--- The invariant: looking from the i-th row on finds what looking from the first finds. Assumes nothing.
+-- The invariant: looking from the i-th row on finds what looking from the first finds.
 use borrow.Author.Needs.{needs}
 use mathlib.Core.Path.{_≡_, refl, sym, ap, _∙_}
 use Prim.Native.Nat.{_-_, _≤_}

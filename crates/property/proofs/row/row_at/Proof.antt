@@ -1,4 +1,4 @@
--- The code's table is the definition's. Assumes nothing.
+-- The code's table is the definition's.
 use borrow.Author.Needs.{needs}
 use Rattle.property.specs.Rows.{rows}
 use Rattle.property.proofs.row.row_at.Statement.{statement}

@@ -1,4 +1,4 @@
--- Each arm is a clause of the definition. Assumes nothing.
+-- Each arm is a clause of the definition.
 use borrow.Author.Needs.{needs}
 use Rattle.reply.specs.Reply.{replyCommand}
 use Rattle.reply.proofs.reply.reply_command.Statement.{statement}

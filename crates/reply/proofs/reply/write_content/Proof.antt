@@ -1,4 +1,4 @@
--- Each arm writes what its clause of the definition says. Assumes nothing.
+-- Each arm writes what its clause of the definition says.
 use borrow.Author.Needs.{needs}
 use Rattle.reply.specs.Reply.{content}
 use Rattle.reply.proofs.reply.write_content.Statement.{statement}

@@ -1,4 +1,4 @@
--- Each writer goes on where the one before it stopped: 2 octets, at most 3 for the number, and at most 33. Assumes nothing.
+-- Each writer goes on where the one before it stopped: 2 octets, at most 3 for the number, and at most 33.
 use native.Mathlib.Omega.{arith}
 use borrow.Author.Needs.{needs}
 use Rattle.octets.proofs.LawsWriting.{wrote-both}

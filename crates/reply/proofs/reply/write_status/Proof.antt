@@ -1,4 +1,4 @@
--- The four octets are written in one go. Assumes nothing.
+-- The four octets are written in one go.
 use borrow.Author.Needs.{needs}
 use Rattle.reply.specs.Reply.{statusReply}
 use Rattle.reply.proofs.reply.write_status.Statement.{statement}

@@ -1,4 +1,4 @@
--- Each arm writes a clause of the definition; a packed number takes at most 3 octets, and the settings' rule bounds the rest. Assumes nothing.
+-- Each arm writes a clause of the definition; a packed number takes at most 3 octets, and the settings' rule bounds the rest.
 use mathlib.Core.Path.{sym}
 use Prim.Native.Nat.{_<_}
 use native.Mathlib.Omega.{arith}

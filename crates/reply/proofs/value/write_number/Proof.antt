@@ -1,4 +1,4 @@
--- A number of the table has at most four octets. Assumes nothing.
+-- A number of the table has at most four octets.
 use native.Mathlib.Omega.{arith}
 use borrow.Author.Needs.{needs}
 use Rattle.property.proofs.TableRule.{width-most}

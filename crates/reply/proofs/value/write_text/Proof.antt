@@ -1,4 +1,4 @@
--- A text and its zero, written one after the other, are both. Assumes nothing.
+-- A text and its zero, written one after the other, are both.
 use borrow.Author.Needs.{needs}
 use Rattle.octets.proofs.LawsWriting.{wrote-both}
 use Rattle.reply.proofs.value.write_text.Statement.{statement}

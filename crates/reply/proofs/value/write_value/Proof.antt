@@ -1,4 +1,4 @@
--- Each arm writes a clause of the definition; the rules of the row, the link and the settings give the room. Assumes nothing.
+-- Each arm writes a clause of the definition; the rules of the row, the link and the settings give the room.
 use mathlib.Core.Path.{sym}
 use native.Mathlib.Omega.{arith}
 use borrow.Author.Needs.{needs}

@@ -1,4 +1,4 @@
--- Each return is a branch of the definition. Assumes nothing.
+-- Each return is a branch of the definition.
 use borrow.Author.Needs.{needs}
 use Rattle.request.specs.Verdict.{byRow, byProperty}
 use Rattle.request.proofs.verdict.by_property.Statement.{statement}

@@ -1,4 +1,4 @@
--- Each return is a branch of the definition. Assumes nothing.
+-- Each return is a branch of the definition.
 use borrow.Author.Tests.{eq-eqb, ne-eqb}
 use Rattle.request.specs.Verdict.{commandOf}
 use Rattle.request.proofs.verdict.command_of.Statement.{statement}

@@ -1,4 +1,4 @@
--- Each way out has the tests that `breaksRules` makes. Assumes nothing.
+-- Each way out has the tests that `breaksRules` makes.
 use mathlib.Core.Path.{sym, _∙_}
 use borrow.Author.Needs.{needs}
 use Rattle.serial.specs.Receiving.{breaksRules}

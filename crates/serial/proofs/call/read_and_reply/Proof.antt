@@ -1,4 +1,4 @@
--- A checked body meets what the engine asks. Assumes nothing.
+-- A checked body meets what the engine asks.
 use mathlib.Core.Path.{_≡_, sym, ap, _∙_}
 use mathlib.Core.List.{List, []}
 use Prim.Native.Nat.{ℕ, _/_, _≤_}

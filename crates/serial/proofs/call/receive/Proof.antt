@@ -1,4 +1,4 @@
--- Each refusal has the tests of the definition, and the rest is `read_and_reply`'s. Assumes nothing.
+-- Each refusal has the tests of the definition, and the rest is `read_and_reply`'s.
 use mathlib.Core.Path.{sym, _∙_}
 use borrow.Author.Needs.{needs}
 use borrow.Author.Tests.{lt-ltb, le-ltb}

@@ -1,4 +1,4 @@
--- The engine's reply stands first in its space, and its frame fits the output. Assumes nothing.
+-- The engine's reply stands first in its space, and its frame fits the output.
 use mathlib.Core.Path.{_≡_}
 use mathlib.Core.List.{List}
 use Prim.Native.Nat.{ℕ}

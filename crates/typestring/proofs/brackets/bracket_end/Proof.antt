@@ -1,5 +1,5 @@
 -- The invariant: the bracket that closes the last of the open ones, looked for from `next` on, is the one that is looked for from `at` on,
--- and it stands in the string. Assumes nothing.
+-- and it stands in the string.
 use mathlib.Core.Logic.{⊎-elim}
 use mathlib.Core.Path.{_≡_, refl}
 use Prim.Native.Nat.{_+_, _-_, _<_, _≤_}

@@ -1,4 +1,4 @@
--- The letter tells whether the item has brackets: with them it ends where they do, and else behind the letter. Assumes nothing.
+-- The letter tells whether the item has brackets: with them it ends where they do, and else behind the letter.
 use mathlib.Core.Bool.{true}
 use mathlib.Core.Path.{_≡_}
 use Prim.Native.Nat.{_+_, _<_}

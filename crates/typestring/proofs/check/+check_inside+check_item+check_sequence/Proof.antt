@@ -1,5 +1,5 @@
 -- The loop's invariant: what a part is found to be from `next` on, it is found to be from its start on. The measures are made of the octets
--- left and the brackets that may still be opened. Assumes nothing.
+-- left and the brackets that may still be opened.
 use mathlib.Core.Bool.{false}
 use mathlib.Core.Path.{_≡_, refl, sym, ap, _∙_}
 use Prim.Native.Nat.{ℕ, _+_, _*_, _-_, _≤_, _<_}

@@ -1,4 +1,4 @@
--- The string's end, or the octet at the place. Assumes nothing.
+-- The string's end, or the octet at the place.
 use native.Mathlib.Omega.{arith}
 use lib.ListN.{drop-of-length-le}
 use Rattle.octets.proofs.LawsLists.{drop-next}

@@ -1,4 +1,4 @@
--- The part that is the whole string, if it ends where the string does. Assumes nothing.
+-- The part that is the whole string, if it ends where the string does.
 use native.Mathlib.Omega.{arith}
 use borrow.Author.Needs.{needs}
 use borrow.Author.Tests.{lt-ltb, le-ltb}

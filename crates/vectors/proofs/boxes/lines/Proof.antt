@@ -1,4 +1,4 @@
--- The measure is how much of the text is left. Assumes nothing.
+-- The measure is how much of the text is left.
 use Prim.Native.Nat.{_≤_}
 use borrow.Author.Needs.{needs}
 use lib.ListN.{length}

@@ -1,4 +1,4 @@
--- The room that is tested for holds the frame, by `frame-bounds`. Assumes nothing.
+-- The room that is tested for holds the frame, by `frame-bounds`.
 use borrow.Author.Needs.{needs}
 use native.Mathlib.Omega.{arith}
 use Rattle.frame.proofs.FrameBounds.{frame-bounds}

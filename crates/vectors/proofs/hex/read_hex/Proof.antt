@@ -1,4 +1,4 @@
--- The measure is how much of the text is left; the invariant: the space keeps its length. Assumes nothing.
+-- The measure is how much of the text is left; the invariant: the space keeps its length.
 use mathlib.Core.Path.{_≡_}
 use borrow.Author.Needs.{needs}
 use lib.ListN.{length}

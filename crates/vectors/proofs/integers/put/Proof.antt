@@ -1,4 +1,4 @@
--- Three octets of room hold a packed integer, by `packed-size`. Assumes nothing.
+-- Three octets of room hold a packed integer, by `packed-size`.
 use borrow.Author.Needs.{needs}
 use native.Mathlib.Omega.{arith}
 use Rattle.packed.proofs.ReadsBack.{packed-size}

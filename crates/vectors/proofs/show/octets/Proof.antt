@@ -1,4 +1,4 @@
--- The invariant: the place is within the octets. Assumes nothing.
+-- The invariant: the place is within the octets.
 use Prim.Native.Nat.{_≤_, _-_}
 use borrow.Author.Needs.{needs}
 use lib.ListN.{length}

@@ -1,4 +1,4 @@
--- The measure is how many leaves are left. Assumes nothing.
+-- The measure is how many leaves are left.
 use Prim.Native.Nat.{_≤_}
 use borrow.Author.Needs.{needs}
 use Rattle.vectors.proofs.types.leaves.Statement.{statement}

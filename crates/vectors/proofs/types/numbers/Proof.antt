@@ -1,4 +1,4 @@
--- The invariant: the place is within the list. Assumes nothing.
+-- The invariant: the place is within the list.
 use Prim.Native.Nat.{_≤_, _-_}
 use borrow.Author.Needs.{needs}
 use lib.ListN.{length}

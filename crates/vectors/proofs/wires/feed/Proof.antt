@@ -1,4 +1,4 @@
--- The invariant: the place is within the chunk, and the buffer keeps its length. Assumes nothing.
+-- The invariant: the place is within the chunk, and the buffer keeps its length.
 use mathlib.Core.Path.{_≡_}
 use Prim.Native.Nat.{_≤_, _-_}
 use borrow.Author.Needs.{needs}

@@ -1,4 +1,4 @@
--- The reader keeps the rules: `keeps_rules` promises them, and it was tested. Assumes nothing.
+-- The reader keeps the rules: `keeps_rules` promises them, and it was tested.
 use mathlib.Core.Path.{sym, _∙_}
 use borrow.Author.Needs.{needs}
 use Rattle.vectors.proofs.wires.offer.Statement.{statement}

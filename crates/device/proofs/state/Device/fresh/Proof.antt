@@ -1,4 +1,4 @@
--- Four times the fresh link. Assumes nothing.
+-- Four times the fresh link.
 use borrow.Author.Needs.{needs}
 use Rattle.device.specs.State.{fresh}
 use Rattle.device.proofs.state.Device.fresh.Statement.{statement}

@@ -1,4 +1,4 @@
--- The number of links is the type's; each return is a test of the definition. Assumes nothing.
+-- The number of links is the type's; each return is a test of the definition.
 use borrow.Author.Needs.{needs}
 use borrow.Author.Tests.{eq-eqb}
 use mathlib.Core.Path.{_≡_, sym, _∙_}

@@ -1,4 +1,4 @@
--- What two writers leave of zeros is the padded whole. Assumes nothing.
+-- What two writers leave of zeros is the padded whole.
 use borrow.Author.Needs.{needs}
 use mathlib.Core.Path.{_≡_, _∙_}
 use mathlib.Core.List.{_++_}

@@ -1,4 +1,4 @@
--- The code's numbers are the table's defaults. Assumes nothing.
+-- The code's numbers are the table's defaults.
 use mathlib.Core.Path.{refl}
 use Rattle.octets.specs.Padding.{pad}
 use Rattle.property.specs.Numbers.{numbers}

@@ -1,4 +1,4 @@
--- What is written to zeros is the padded text. Assumes nothing.
+-- What is written to zeros is the padded text.
 use borrow.Author.Needs.{needs}
 use mathlib.Core.Path.{_≡_, _∙_}
 use native.Mathlib.Omega.{arith}

@@ -1,4 +1,4 @@
--- The power state is what `power_after` promises. Assumes nothing.
+-- The power state is what `power_after` promises.
 use borrow.Author.Needs.{needs}
 use Rattle.device.proofs.view.View.after.Statement.{statement}
 use Rattle.device.proofs.view.View.after.Tie as tie

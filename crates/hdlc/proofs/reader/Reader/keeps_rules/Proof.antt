@@ -1,4 +1,4 @@
--- Each way out has the tests that `rules` makes. Assumes nothing.
+-- Each way out has the tests that `rules` makes.
 use borrow.Author.Tests.{lt-ltb, le-ltb}
 use Rattle.hdlc.specs.Rules.{rules}
 use Rattle.hdlc.proofs.reader.Reader.keeps_rules.Statement.{statement}
