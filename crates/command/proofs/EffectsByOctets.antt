@@ -13,8 +13,8 @@ use Rattle.octets.specs.LittleEndian.{le}
 use Rattle.octets.proofs.LawsTests.{by-test, and-l, and-r, both, impossible}
 use Rattle.packed.specs.Packed.{packed, packedIn, numberIn, packedAt}
 use Rattle.packed.proofs.OneSpelling.{one-octet}
-use Rattle.property.specs.Rows.{rows, settable, lookupIn, lookup, allows}
-use Rattle.property.specs.Numbers.{powerState, within}
+use Rattle.property.specs.Row.{rows, settable, lookupIn, lookup, allows}
+use Rattle.property.specs.Number.{powerState, within}
 use Rattle.property.proofs.TableRule.{power-id}
 use Rattle.property.specs.declared.row.Command.{Command}
 use Rattle.property.specs.declared.row.Command.the-variants.{Get, Set, Insert, Remove}
@@ -32,14 +32,14 @@ use Rattle.request.specs.Verdict.{commandOf, byRow, byProperty, byCommand, verd
 use Rattle.request.proofs.LawsVerdict.{verdict-reach, verdict-reset}
 use Rattle.method.specs.declared.outcome.Outcome.{Outcome}
 use Rattle.method.specs.declared.outcome.Outcome.the-variants.{Done, Refused}
-use Rattle.method.specs.declared.set.Value.{Value}
-use Rattle.method.specs.declared.set.Value.the-variants.{Good, Bad}
+use Rattle.method.specs.declared.set.PayloadNumber.{PayloadNumber}
+use Rattle.method.specs.declared.set.PayloadNumber.the-variants.{Good, Bad}
 use Rattle.method.specs.Perform.{valueIn, powerTo, setPower, setKind, perform}
 use Rattle.method.proofs.LawsEffects.{Quiet, Still, perform-still}
 use Rattle.method.proofs.LawsNumbers.{value-told, within-most}
 use Rattle.reply.specs.Value.{valueOf}
-use Rattle.reply.specs.Reply.{replyCommand, content, replied}
-use Rattle.command.specs.Decide.{replying, concluded, reached, judgedBy, judged, reported, decisionOf, decide}
+use Rattle.reply.specs.Reply.{replyCommand, content, successReply}
+use Rattle.command.specs.Decision.{replying, concluded, reached, judgedBy, judged, statusDecision, decisionOf, decide}
 use Rattle.command.specs.Effects.{isReset, isPower, effectOf}
 
 -- ---- the octets of a reset and of a power setting give their verdicts
@@ -80,10 +80,10 @@ from-power b t =
 
 quiet-decision : (v : View) (h : ℕ) (c : Command) (r : Row) (p : List ℕ) (l : Link) (o : Outcome) → Quiet o
     → decisionOf v h (concluded v h c r p l o) .effect ≡ None
-unfolding decisionOf concluded replying reported
+unfolding decisionOf concluded replying statusDecision
 quiet-decision v h c r p l (Refused s) q = refl
 quiet-decision v h c r p l (Done e) q =
-    by-test (ltb 61 (length (replied (after v e l) h c r p))) (λ t. rw t) (λ t. rw t q)
+    by-test (ltb 61 (length (successReply (after v e l) h c r p))) (λ t. rw t) (λ t. rw t q)
 
 -- ---- a power setting that is accepted is one by its octets
 
@@ -126,7 +126,7 @@ accepted b r start x e k g =
 -- ---- the effect of a body
 
 power-effect : (v : View) (h x : ℕ) → x ≤ 4 → decisionOf v h (reached v h Set row7 (x ∷ [])) .effect ≡ Powered x
-unfolding decisionOf reached concluded perform setKind setPower powerTo valueIn within le replying replied replyCommand content valueOf packed packedIn
+unfolding decisionOf reached concluded perform setKind setPower powerTo valueIn within le replying successReply replyCommand content valueOf packed packedIn
 power-effect v h x few =
     let same : x + 256 * 0 ≡ x = omega arith in
     rw (same, le-ltb 255 x (omega arith), le-ltb x 0 (omega arith), le-leb x 4 few)
@@ -154,7 +154,7 @@ set-power : (v : View) (b : List ℕ) (r : Row) (start : ℕ)
 unfolding Still perform setKind setPower
 set-power v b r start e k n = rw k (by (valueIn powerState (drop start b)) refl)
   where
-    by : (x : Value) → valueIn powerState (drop start b) ≡ x → Quiet (powerTo (v .link) x .outcome)
+    by : (x : PayloadNumber) → valueIn powerState (drop start b) ≡ x → Quiet (powerTo (v .link) x .outcome)
     by (Bad s) g = unfold powerTo in tt
     by (Good x) g = impossible (cc (accepted b r start x e k g))
 
@@ -196,7 +196,7 @@ effect-reach v b c r start e =
     (λ t. rw (n, t) (quiet-decision v (headerOf b) c r (drop start b) _ _ (still-reach v b c r start e t)))
 
 effect-by : (v : View) (b : List ℕ) (w : Verdict) → verdictOf b ≡ w → decisionOf v (headerOf b) (judgedBy v b w) .effect ≡ effectOf b
-unfolding judgedBy decisionOf reported
+unfolding judgedBy decisionOf statusDecision
 effect-by v b (verdict.Refuse step s) e =
     sym (none b (no-reset b _ e (λ q. impossible cc)) (no-power b _ e (λ q. impossible cc)))
 effect-by v b verdict.Noop e = sym (none b (no-reset b _ e (λ q. impossible cc)) (no-power b _ e (λ q. impossible cc)))

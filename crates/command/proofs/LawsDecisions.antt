@@ -21,8 +21,8 @@ use Rattle.request.specs.declared.verdict.Verdict.the-variants as verdict
 use Rattle.request.proofs.LawsVerdict.{verdict-reset}
 use Rattle.method.specs.declared.outcome.Outcome.{Outcome}
 use Rattle.method.specs.declared.outcome.Outcome.the-variants.{Done, Refused}
-use Rattle.reply.specs.Reply.{statusReply, replied}
-use Rattle.command.specs.Decide.{withStatus, Judged, stopped, noop, reset, success, judged, reported, decisionOf, decide, replying, concluded, reached, judgedBy}
+use Rattle.reply.specs.Reply.{statusReply, successReply}
+use Rattle.command.specs.Decision.{withStatus, Judged, stopped, noop, reset, success, judged, statusDecision, decisionOf, decide, replying, concluded, reached, judgedBy}
 use Rattle.command.specs.Effects.{isReset}
 use Rattle.command.proofs.LawsJudged.{Sound, judged-sound}
 use Rattle.command.proofs.EffectsByOctets.{reset-verdict}
@@ -34,7 +34,7 @@ unfolding sized
 status-kept l s f h = record { sized = f .sized; status = h; range = f .range; stack = f .stack; name = f .name; ports = f .ports }
 
 link-by : (v : View) (h : ℕ) (j : Judged) → LinkFacts (v .link) → Sound v j → LinkFacts (decisionOf v h j .link)
-unfolding decisionOf reported
+unfolding decisionOf statusDecision
 link-by v h (stopped s) f t = status-kept (v .link) s f t
 link-by v h noop f t = status-kept (v .link) 0 f refl
 link-by v h reset f t = f
@@ -50,7 +50,7 @@ abbrev pub Bounded : List ℕ → Type 0
 Bounded reply = (3 ≤ length reply) × (length reply ≤ 61)
 
 pub by-judged : (v : View) (h : ℕ) (j : Judged) → Sound v j → Bounded (decisionOf v h j .reply)
-unfolding decisionOf reported statusReply
+unfolding decisionOf statusDecision statusReply
 by-judged v h (stopped s) t = (omega arith, omega arith)
 by-judged v h noop t = (omega arith, omega arith)
 by-judged v h reset t = (omega arith, omega arith)
@@ -58,14 +58,14 @@ by-judged v h (success e l reply) t = (t .2, t .3)
 
 concluded-header : (v : View) (h : ℕ) (c : Command) (r : Row) (p : List ℕ) (l : Link) (o : Outcome)
     → headerOf (decisionOf v h (concluded v h c r p l o) .reply) ≡ h
-unfolding decisionOf concluded replying reported statusReply replied
+unfolding decisionOf concluded replying statusDecision statusReply successReply
 concluded-header v h c r p l (Refused s) = refl
 concluded-header v h c r p l (Done e) =
-    chosen (λ j. headerOf (decisionOf v h j .reply) ≡ h) (ltb 61 (length (replied (after v e l) h c r p))) (λ _. refl) (λ _. refl)
+    chosen (λ j. headerOf (decisionOf v h j .reply) ≡ h) (ltb 61 (length (successReply (after v e l) h c r p))) (λ _. refl) (λ _. refl)
 
 header-by : (v : View) (b : List ℕ) (w : Verdict) → verdictOf b ≡ w → isReset b ≡ false
     → headerOf (decisionOf v (headerOf b) (judgedBy v b w) .reply) ≡ headerOf b
-unfolding decisionOf judgedBy reached reported statusReply isReset
+unfolding decisionOf judgedBy reached statusDecision statusReply isReset
 header-by v b (verdict.Refuse step s) e n = refl
 header-by v b verdict.Noop e n = refl
 header-by v b verdict.Reset e n = impossible (cc (eq-eqb _ _ (verdict-reset b e)))

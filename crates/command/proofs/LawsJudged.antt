@@ -23,9 +23,9 @@ use Rattle.method.specs.declared.outcome.Outcome.{Outcome}
 use Rattle.method.specs.declared.outcome.Outcome.the-variants.{Done, Refused}
 use Rattle.method.specs.Perform.{perform}
 use Rattle.method.proofs.LawsKept.{perform-kept}
-use Rattle.reply.specs.Reply.{replied}
+use Rattle.reply.specs.Reply.{successReply}
 use Rattle.reply.proofs.LawsReplies.{replied-size}
-use Rattle.command.specs.Decide.{Judged, stopped, noop, reset, success, replying, concluded, reached, judgedBy, judged}
+use Rattle.command.specs.Decision.{Judged, stopped, noop, reset, success, replying, concluded, reached, judgedBy, judged}
 use Rattle.command.proofs.LawsContent.{content-size}
 
 abbrev pub Sound : View → Judged → Type 0
@@ -45,7 +45,7 @@ module _ (v : View) (s : settingsRule (v .settings) ≡ true) (t : linkRule (v .
       let kept = perform-kept (v .link) t c (r .kind) p (λ slot k. slot-below r slot k rule) in
       let l = perform (v .link) c (r .kind) p .link in
       let size = replied-size (after v x l) h c r p (content-size v c r p x s t rule e) in
-      chosen (Sound v) (ltb 61 (length (replied (after v x l) h c r p))) (λ _. refl) (λ _. (kept .facts, kept .same, size .0, size .1))
+      chosen (Sound v) (ltb 61 (length (successReply (after v x l) h c r p))) (λ _. refl) (λ _. (kept .facts, kept .same, size .0, size .1))
 
   judged-by : (b : List ℕ) (w : Verdict) → verdictOf b ≡ w → Small w → Sound v (judgedBy v b w)
   unfolding judgedBy reached

@@ -20,7 +20,7 @@ ghost use Rattle.property.specs.Rule.{rowRule};
 ghost use Rattle.device.specs.Rules.{settingsRule, linkRule};
 ghost use Rattle.device.specs.View.{after};
 ghost use Rattle.reply.specs.Reply.{content};
-ghost use Rattle.command.specs.Decide.{Did, reported, decisionOf, performed, reached, decide};
+ghost use Rattle.command.specs.Decision.{Did, statusDecision, decisionOf, performed, reached, decide};
 
 // The effect on the whole box, the link, and how many octets the reply has.
 pub struct Decided {
@@ -32,7 +32,7 @@ pub struct Decided {
 // A status, which becomes the link's last one.
 fn report_status(link: Link, header: u8, status: u8, out: &mut [u8]) -> Decided
     requires { ⌜ 61 ≤ length (now out) ⌝ }
-    ensures { λ r. ⌜ Did (reported link header status) r (now (out .entry)) (now (out .exit)) ⌝ }
+    ensures { λ r. ⌜ Did (statusDecision link header status) r (now (out .entry)) (now (out .exit)) ⌝ }
 {
     let len = write_status(out, header, status);
     let mut changed = link;
@@ -60,7 +60,7 @@ fn conclude(
     ensures { λ r. ⌜ Did (decisionOf view header (performed view header command row (now (payload .entry)) link effect)) r (now (out .entry)) (now (out .exit)) ⌝ }
 {
     let len = write_reply(out, view.after(effect, link), header, command, row, payload);
-    if Device::MOST_REPLY < len {
+    if Device::MAX_REPLY < len {
         return report_status(view.link, header, status::INTERNAL_ERROR, out);
     }
     Decided { effect, link, len }

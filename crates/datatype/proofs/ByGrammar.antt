@@ -9,10 +9,10 @@ use lib.ListN.{length}
 use Rattle.typestring.specs.Grammar.{Items, TypeString}
 use Rattle.typestring.specs.Parse.{Parsed, malformed, parsed, typeOf}
 use Rattle.typestring.proofs.Grammatical.{sound, complete}
-use Rattle.datatype.specs.Answers.{mostPayload, refused, listed, payloadReads, result}
+use Rattle.datatype.specs.Answer.{maxPayload, refused, listed, payloadReads, result}
 
 pub by-tree : (types payload : List ℕ) (room : ℕ) (t : Items) → TypeString types t
-    → result (typeOf types) payload room ≡ cond (ltb mostPayload (length payload)) (refused 16) (listed room (payloadReads t payload))
+    → result (typeOf types) payload room ≡ cond (ltb maxPayload (length payload)) (refused 16) (listed room (payloadReads t payload))
 unfolding result
 by-tree types payload room t w = rw (complete types t w)
 

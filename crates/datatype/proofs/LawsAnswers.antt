@@ -15,10 +15,10 @@ use Rattle.typestring.proofs.LawsGrammar.{end-shut}
 use Rattle.typestring.proofs.Grammatical.{accepted, complete}
 use Rattle.datatype.specs.declared.list.Read.{Read}
 use Rattle.datatype.specs.declared.list.Read.the-variants as read
-use Rattle.datatype.specs.declared.read.Answer.{Answer}
-use Rattle.datatype.specs.declared.read.Answer.the-variants as answer
+use Rattle.datatype.specs.declared.reading.Answer.{Answer}
+use Rattle.datatype.specs.declared.reading.Answer.the-variants as answer
 use Rattle.datatype.specs.Reading.{Leaf, numbers, upto, partReads}
-use Rattle.datatype.specs.Answers.{refused, listed, payloadReads, result, answerTo, told, tells, filled}
+use Rattle.datatype.specs.Answer.{refused, listed, payloadReads, result, answerTo, reported, reportOf, filled}
 use Rattle.datatype.specs.Calls.{Room, Did, fillingTo, ReadsPart}
 use Rattle.datatype.proofs.LawsTook.{part-took}
 use Rattle.datatype.proofs.LawsReading.{filling-fit}
@@ -26,21 +26,21 @@ use Rattle.datatype.proofs.LawsDid.{did-misfit, did-upto, did-filling, 
 
 -- the two equations of the public call
 abbrev pub Answered : List ℕ → List ℕ → List ℕ → List ℕ → Answer → Type 0
-Answered types payload list list′ a = (told a ≡ tells (answerTo types payload list)) × (list′ ≡ filled list (answerTo types payload list))
+Answered types payload list list′ a = (reported a ≡ reportOf (answerTo types payload list)) × (list′ ≡ filled list (answerTo types payload list))
 
 pub answers-malformed : (types payload list : List ℕ) → isType (typeOf types) ≡ false → Answered types payload list list answer.Malformed
-unfolding result tells filled
+unfolding result reportOf filled
 answers-malformed types payload list e = go (typeOf types) e
   where
     go : (p : Parsed) → isType p ≡ false
-        → (told answer.Malformed ≡ tells (result p payload (length list))) × (list ≡ filled list (result p payload (length list)))
+        → (reported answer.Malformed ≡ reportOf (result p payload (length list))) × (list ≡ filled list (result p payload (length list)))
     go malformed e = (refl, refl)
     go (parsed t s) e = let z : _≡_ {A = ℕ} 0 1 = cc in absurd (omega arith)
 
 -- a refusal leaves the list as it was
 refuses : (types payload list list′ : List ℕ) (a : Answer) (n : ℕ) → result (typeOf types) payload (length list) ≡ refused n → list′ ≡ list
-    → told a ≡ record { number = n; count = 0 } → Answered types payload list list′ a
-unfolding tells filled
+    → reported a ≡ record { number = n; count = 0 } → Answered types payload list list′ a
+unfolding reportOf filled
 refuses types payload list list′ a n e same number = rw e (number, same)
 
 -- a list of which none was lent
@@ -104,7 +104,7 @@ module _ (types payload list : List ℕ) (typed : isType (typeOf types) ≡ true
 
         pub answers-leaves : 3 * n ≤ length list → (r₂ : Read) (list₂ : List ℕ) → ReadsPart types 4 payload 0 (ys′ ++ list) list₂ 0 r₂
             → Answered types payload list list₂ (answer.Leaves n)
-        unfolding listed tells filled
+        unfolding listed reportOf filled
         answers-leaves h r₂ list₂ second =
             let ls = found .0 in
             let f = filling-fit (length payload) (partReads (tree .0) payload 0) p ls (found .1) in

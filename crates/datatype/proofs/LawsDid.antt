@@ -11,7 +11,7 @@ use Rattle.octets.proofs.LawsRuns.{each-append}
 use Rattle.octets.proofs.LawsWriting.{sets-append}
 use Rattle.datatype.specs.declared.list.Read.{Read}
 use Rattle.datatype.specs.declared.list.Read.the-variants as read
-use Rattle.datatype.specs.Reading.{Leaf, numbers, Reading, misfit, upto, after, andThen, filling}
+use Rattle.datatype.specs.Reading.{Leaf, numbers, Reading, misfit, upto, prefixed, andThen, filling}
 use Rattle.datatype.specs.Calls.{Did, fillingTo}
 
 numbers-append : (ls ms : List Leaf) → numbers (ls ++ ms) ≡ numbers ls ++ numbers ms
@@ -44,8 +44,8 @@ did-none l p k = (ap (read.Upto p) (omega arith), refl)
 
 -- one reading after another
 did-after : (ls : List Leaf) (m : Reading) (l l₁ l₂ : List ℕ) (k n : ℕ) (r : Read) → n ≡ k + length ls → l₁ ≡ sets l (3 * k) (numbers ls)
-    → Did m l₁ l₂ n r → Did (after ls m) l l₂ k r
-unfolding after
+    → Did m l₁ l₂ n r → Did (prefixed ls m) l l₂ k r
+unfolding prefixed
 did-after ls misfit l l₁ l₂ k n r count held d = d
 did-after ls (upto p ms) l l₁ l₂ k n r count held d =
     let place : 3 * n ≡ 3 * k + length (numbers ls) = omega (arith, length-numbers ls) in (

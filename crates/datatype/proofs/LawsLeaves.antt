@@ -16,11 +16,11 @@ use Rattle.packed.specs.declared.Packed.the-variants as packed
 use Rattle.packed.proofs.OneSpelling.{place-after}
 use Rattle.typestring.specs.declared.kind.Value.{Value}
 use Rattle.typestring.specs.declared.kind.Value.the-variants as value
-use Rattle.typestring.specs.declared.kind.Kind.the-variants as kind
-use Rattle.typestring.specs.Kinds.{kindOf}
+use Rattle.typestring.specs.declared.kind.ItemKind.the-variants as kind
+use Rattle.typestring.specs.Kind.{kindOf}
 use Rattle.typestring.proofs.LawsKinds.{letter-of}
 use Rattle.datatype.specs.declared.leaf.Span.the-variants.{At, Misfit}
-use Rattle.datatype.specs.Leaves.{fixedAt, boolAt, numberSpan, textAt, countedAt, spanOf}
+use Rattle.datatype.specs.Leaf.{fixedAt, boolAt, numberSpan, textAt, countedAt, spanOf}
 
 -- ---- a span that is one
 

@@ -10,20 +10,20 @@ use native.Mathlib.Nat.{sub-zero}
 use lib.ListN.{length, getD, take, drop}
 use lib.Seq.{length-take-le, drop-drop}
 use Rattle.octets.proofs.LawsLists.{front}
-use Rattle.typestring.specs.declared.kind.Kind.{Kind}
-use Rattle.typestring.specs.declared.kind.Kind.the-variants as kind
+use Rattle.typestring.specs.declared.kind.ItemKind.{ItemKind}
+use Rattle.typestring.specs.declared.kind.ItemKind.the-variants as kind
 use Rattle.typestring.specs.declared.kind.Value.{Value}
-use Rattle.typestring.specs.Kinds.{kindOf}
+use Rattle.typestring.specs.Kind.{kindOf}
 use Rattle.typestring.specs.Grammar.{Item, Items, value, rest, struct, array, printItem}
-use Rattle.typestring.specs.Parse.{closed}
+use Rattle.typestring.specs.Parse.{endsPart}
 use Rattle.typestring.specs.Calls.{PartFrom, ItemFrom, EndsItem}
-use Rattle.typestring.proofs.kind.Kind.{the-type as kind-type}
+use Rattle.typestring.proofs.kind.ItemKind.{the-type as kind-type}
 use Rattle.typestring.proofs.LawsPlaces.{kindIs, item-first, item-place, part-ended, part-item, struct-inner, array-inner, is-value, is-struct, is-array}
 use Rattle.datatype.specs.declared.leaf.Span.{Span}
 use Rattle.datatype.specs.declared.leaf.Span.the-variants as span
 use Rattle.datatype.specs.declared.list.Read.{Read}
 use Rattle.datatype.specs.declared.list.Read.the-variants as read
-use Rattle.datatype.specs.Leaves.{spanOf, countedAt, restOf}
+use Rattle.datatype.specs.Leaf.{spanOf, countedAt, restOf}
 use Rattle.datatype.specs.Reading.{Leaf, upto, andThen, leafReads, contents, itemReads, partReads}
 use Rattle.datatype.specs.Calls.{Room, Small, Did, fillingTo, ReadsPart, ReadsItem}
 use Rattle.datatype.proofs.LawsLeaves.{span-fits, counted-fits}
@@ -61,7 +61,7 @@ span-small v part from letter (span.At start size next) room short e f =
     let g = span-fits v part from start size next room letter e (sym f) in (omega arith, omega arith)
 
 -- the `_` of the reader's `match` leaves D and no other item
-pub reads-rest : (types : List ℕ) (at depth : ℕ) (part : List ℕ) (from : ℕ) (l l′ : List ℕ) (n : ℕ) (r : Read) (k : Kind) → k ≡ kindOf (getD types at 0)
+pub reads-rest : (types : List ℕ) (at depth : ℕ) (part : List ℕ) (from : ℕ) (l l′ : List ℕ) (n : ℕ) (r : Read) (k : ItemKind) → k ≡ kindOf (getD types at 0)
     → OneOf (1 ∷ 4 ∷ []) (tagOf kind-type k) → Did (leafReads (getD types at 0) (restOf part from)) l l′ n r
     → ReadsItem (drop at types) depth part from l l′ n r
 unfolding itemReads printItem
@@ -155,13 +155,13 @@ elements-end t part from l k h = rw (array-done t part from h) (did-none l from 
 
 -- ---- a sequence, item by item
 
-pub sequence-ends : (s : List ℕ) (depth : ℕ) (part : List ℕ) (from : ℕ) (l : List ℕ) (k : ℕ) (t : Items) → closed s ≡ true → PartFrom s depth t
+pub sequence-ends : (s : List ℕ) (depth : ℕ) (part : List ℕ) (from : ℕ) (l : List ℕ) (k : ℕ) (t : Items) → endsPart s ≡ true → PartFrom s depth t
     → Did (partReads t part from) l l k (read.Upto from k)
 unfolding partReads
 sequence-ends s depth part from l k t shut w = rw (part-ended s depth t shut w) (did-none l from k)
 
 module _ (types part : List ℕ) (place depth next count : ℕ) (l l₁ : List ℕ) (r₁ : Read) (t : Items) (w : PartFrom (drop place types) depth t)
-    (going : closed (drop place types) ≡ false) (item : ReadsItem (drop place types) depth part next l l₁ count r₁) where
+    (going : endsPart (drop place types) ≡ false) (item : ReadsItem (drop place types) depth part next l l₁ count r₁) where
   pub turn-misfit : (l₂ : List ℕ) → r₁ ≡ read.Misfit → Did (partReads t part next) l l₂ count read.Misfit
   unfolding partReads
   turn-misfit l₂ e =

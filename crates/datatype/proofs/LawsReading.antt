@@ -8,7 +8,7 @@ use lib.Dec.{eqb, ltb}
 use Rattle.octets.proofs.LawsTests.{by-test}
 use Rattle.datatype.specs.declared.leaf.Span.{Span}
 use Rattle.datatype.specs.declared.leaf.Span.the-variants as span
-use Rattle.datatype.specs.Reading.{Leaf, leafOf, Reading, misfit, upto, after, andThen, filling, leafReads, contents, elements}
+use Rattle.datatype.specs.Reading.{Leaf, leafOf, Reading, misfit, upto, prefixed, andThen, filling, leafReads, contents, elements}
 
 never : {P : Type 0} {p : ℕ} {ls : List Leaf} → misfit ≡ upto p ls → P
 never e = let z : _≡_ {A = ℕ} 0 1 = cc in absurd (omega arith)
@@ -18,11 +18,11 @@ never e = let z : _≡_ {A = ℕ} 0 1 = cc in absurd (omega arith)
 -- two readings in a row, where both fit
 pub both-fit : (m : Reading) (go : ℕ → Reading) (p : ℕ) (ls : List Leaf) → andThen m go ≡ upto p ls
     → (q : ℕ) × (ms : List Leaf) × (ns : List Leaf) × (m ≡ upto q ms) × (go q ≡ upto p ns) × (ls ≡ ms ++ ns)
-unfolding andThen after
+unfolding andThen prefixed
 both-fit misfit go p ls e = never e
 both-fit (upto q ms) go p ls e = second (go q) refl e
   where
-    second : (n : Reading) → go q ≡ n → after ms n ≡ upto p ls
+    second : (n : Reading) → go q ≡ n → prefixed ms n ≡ upto p ls
         → (q′ : ℕ) × (ms′ : List Leaf) × (ns : List Leaf) × (upto q ms ≡ upto q′ ms′) × (go q′ ≡ upto p ns) × (ls ≡ ms′ ++ ns)
     second misfit e f = never f
     second (upto p′ ns) e f = (q, ms, ns, refl, cc, cc)
@@ -52,7 +52,7 @@ contents-fit (span.At start size next) go p ls e =
 then-same : (m : Reading) (f g : ℕ → Reading) → ((p : ℕ) (ls : List Leaf) → m ≡ upto p ls → f p ≡ g p) → andThen m f ≡ andThen m g
 unfolding andThen
 then-same misfit f g h = refl
-then-same (upto p ls) f g h = ap (after ls) (h p ls refl)
+then-same (upto p ls) f g h = ap (prefixed ls) (h p ls refl)
 
 -- ---- elements, where each takes an octet
 

@@ -9,7 +9,7 @@ use lib.ListN.{length, take, length-append}
 use lib.Seq.{length-take-le}
 use Rattle.octets.proofs.LawsTests.{by-test}
 use Rattle.typestring.specs.Grammar.{Item, Items, value, rest, struct, array, end, more, Some, ItemRules, PartRules}
-use Rattle.datatype.specs.Leaves.{spanOf, countedAt, restOf}
+use Rattle.datatype.specs.Leaf.{spanOf, countedAt, restOf}
 use Rattle.datatype.proofs.LawsLeaves.{span-fits, counted-fits}
 use Rattle.datatype.specs.Reading.{Leaf, InOrder, Reading, upto, andThen, elements, itemReads, partReads}
 use Rattle.datatype.proofs.LawsReading.{both-fit, leaf-fit, contents-fit}

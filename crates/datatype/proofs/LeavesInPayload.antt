@@ -13,7 +13,7 @@ use Rattle.typestring.specs.Grammar.{Items, PartRules}
 use Rattle.typestring.specs.Parse.{Parsed, malformed, parsed, typeOf}
 use Rattle.typestring.proofs.Grammatical.{sound}
 use Rattle.datatype.specs.Reading.{Leaf, InOrder, Reading, misfit, upto, partReads}
-use Rattle.datatype.specs.Answers.{mostPayload, refused, leaves, listed, payloadReads, result}
+use Rattle.datatype.specs.Answer.{maxPayload, refused, leaves, listed, payloadReads, result}
 use Rattle.datatype.proofs.LawsReading.{filling-fit}
 use Rattle.datatype.proofs.LawsTook.{part-took}
 
@@ -40,7 +40,7 @@ leaves-placed types payload room ls e = go (typeOf types) (λ t s h. sound types
     go : (p : Parsed) → ((t : Items) (s : List ℕ) → p ≡ parsed t s → PartRules t 4 false) → result p payload room ≡ leaves ls → Placed payload room ls
     go malformed rules e = never e
     go (parsed t s) rules e =
-        by-test (ltb mostPayload (length payload)) (λ long. never (rw long at e))
+        by-test (ltb maxPayload (length payload)) (λ long. never (rw long at e))
         (λ short. let w = roomy room (payloadReads t payload) ls (rw short at e) in
         let f = filling-fit (length payload) (partReads t payload 0) (w .0) ls (w .1) in
         let g = part-took t 4 false payload 0 (w .0) ls (rules t s refl) (omega arith) (f .0) in

@@ -6,27 +6,27 @@ use Prim.Native.Nat.{ℕ, _+_, _*_, _≤_}
 use lib.Dec.{eqb}
 use lib.ListN.{length}
 use lib.Seq.{sets}
-use Rattle.typestring.specs.Grammar.{Item, Items, mostOctets}
+use Rattle.typestring.specs.Grammar.{Item, Items, maxOctets}
 use Rattle.typestring.specs.Calls.{PartFrom, ItemFrom}
 use Rattle.datatype.specs.declared.leaf.Span.{Span}
 use Rattle.datatype.specs.declared.leaf.Span.the-variants as span
 use Rattle.datatype.specs.declared.list.Read.{Read}
 use Rattle.datatype.specs.declared.list.Read.the-variants as read
 use Rattle.datatype.specs.Reading.{Reading, misfit, upto, numbers, itemReads, partReads}
-use Rattle.datatype.specs.Answers.{mostPayload}
+use Rattle.datatype.specs.Answer.{maxPayload}
 
 -- places within their slices, and no more leaves so far than octets were passed
 pub record Room (types part : List ℕ) (at from leaves : ℕ) : Type 0 where
-  pub few : length types ≤ mostOctets
+  pub few : length types ≤ maxOctets
   pub placed : at ≤ length types
-  pub short : length part ≤ mostPayload
+  pub short : length part ≤ maxPayload
   pub within : from ≤ length part
   pub counted : leaves ≤ from + at
 
 -- a span within a payload
 abbrev pub Small : Span → Type 0
 Small span.Misfit = Unit {0}
-Small (span.At start size next) = (start ≤ mostPayload) × (size ≤ mostPayload)
+Small (span.At start size next) = (start ≤ maxPayload) × (size ≤ maxPayload)
 
 -- the answer is that of a reading, and its leaves' numbers stand in the list as far as it goes, behind those of the leaves before
 abbrev pub Did : Reading → List ℕ → List ℕ → ℕ → Read → Type 0

@@ -1,4 +1,4 @@
-pub mod Leaves
+pub mod Leaf
 pub mod Reading
-pub mod Answers
+pub mod Answer
 pub mod Calls

@@ -8,7 +8,7 @@ use Rattle.octets.specs.Runs.{each}
 use Rattle.typestring.specs.Grammar.{Item, Items, value, rest, struct, array, end, more}
 use Rattle.datatype.specs.declared.leaf.Span.{Span}
 use Rattle.datatype.specs.declared.leaf.Span.the-variants.{At, Misfit}
-use Rattle.datatype.specs.Leaves.{spanOf, countedAt, restOf}
+use Rattle.datatype.specs.Leaf.{spanOf, countedAt, restOf}
 
 -- "three a leaf: ASCII letter code, start in the payload, length"
 pub record Leaf : Type 0 where
@@ -33,14 +33,14 @@ pub data Reading : Type 0 where
   misfit : Reading
   upto : ℕ → List Leaf → Reading
 
-unfoldable pub after : List Leaf → Reading → Reading
-after ls misfit = misfit
-after ls (upto p ms) = upto p (ls ++ ms)
+unfoldable pub prefixed : List Leaf → Reading → Reading
+prefixed ls misfit = misfit
+prefixed ls (upto p ms) = upto p (ls ++ ms)
 
 -- one reading, and another from where it stopped
 unfoldable pub andThen : Reading → (ℕ → Reading) → Reading
 andThen misfit go = misfit
-andThen (upto p ls) go = after ls (go p)
+andThen (upto p ls) go = prefixed ls (go p)
 
 -- "A reading consumes everything, inside each t too": it stops at the part's end
 unfoldable pub filling : ℕ → Reading → Reading

@@ -9,7 +9,7 @@ ghost use Prim.Native.Nat.{_≤_};
 ghost use lib.ListN.{length, drop};
 ghost use Rattle.octets.specs.Finding.{before};
 ghost use Rattle.packed.specs.Packed.{packedAt};
-ghost use Rattle.datatype.specs.Leaves.{fixedAt, boolAt, numberSpan, textAt, countedAt, spanOf, restOf};
+ghost use Rattle.datatype.specs.Leaf.{fixedAt, boolAt, numberSpan, textAt, countedAt, spanOf, restOf};
 
 // Where a value stands: its start, its length and the place after it; or that it does not fit.
 pub enum Span {

@@ -1,7 +1,7 @@
 // Where the values of a payload stand by a type string (01, Type strings).
 mod leaf;
 mod list;
-mod read;
+mod reading;
 
-pub use read::Answer;
-pub use read::read_typed;
+pub use reading::Answer;
+pub use reading::read_typed;

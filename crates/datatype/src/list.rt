@@ -3,8 +3,8 @@ use crate::leaf::Span;
 ghost use mathlib.Core.Path.{_≡_};
 ghost use Prim.Native.Nat.{_+_, _≤_};
 ghost use lib.ListN.{set};
-ghost use Rattle.typestring.specs.Grammar.{mostOctets};
-ghost use Rattle.datatype.specs.Answers.{mostPayload};
+ghost use Rattle.typestring.specs.Grammar.{maxOctets};
+ghost use Rattle.datatype.specs.Answer.{maxPayload};
 ghost use Rattle.datatype.specs.Reading.{leafReads};
 ghost use Rattle.datatype.specs.Calls.{Small, Did};
 
@@ -16,7 +16,7 @@ pub enum Read {
 
 // The leaf of a value, behind the leaves so far. Its numbers are stored as far as the list goes.
 pub fn put_leaf(list: &mut [u32], leaves: usize, letter: u8, span: Span) -> Read
-    requires { ⌜ (leaves ≤ mostPayload + mostOctets) × Small span ⌝ }
+    requires { ⌜ (leaves ≤ maxPayload + maxOctets) × Small span ⌝ }
     ensures { λ r. ⌜ Did (leafReads letter span) (now (list .entry)) (now (list .exit)) leaves r ⌝ }
 {
     match span {

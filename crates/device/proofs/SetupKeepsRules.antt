@@ -11,11 +11,11 @@ use Rattle.octets.specs.Padding.{pad}
 use Rattle.octets.specs.Scanning.{allFrom, allBelow, zerosFrom}
 use Rattle.octets.proofs.LawsTests.{chosen}
 use Rattle.octets.proofs.LawsScanning.{all-of}
-use Rattle.property.specs.Numbers.{numbers, within}
+use Rattle.property.specs.Number.{numbers, within}
 use Rattle.device.specs.declared.state.Settings.{Settings}
 use Rattle.device.specs.State.{goodText, isText, portsIn, distinct, defaults, freshLink, noLink, fresh}
 use Rattle.device.specs.Rules.{padded, textRule, portsRule, inRange, stackRule, sized, linkRule, atDefaults, isFresh, linkKept, settingsRule, rules}
-use Rattle.device.specs.Setup.{Told, isSetup, settingsFrom, refusal, setupFor}
+use Rattle.device.specs.Setup.{Report, isSetup, settingsFrom, refusal, setupFor}
 use Rattle.device.proofs.LawsSetup.{setup-rule, setup-told}
 use Rattle.device.proofs.LawsRules.{text-told}
 
@@ -51,4 +51,4 @@ ready-keeps links vendor text address t =
 pub setup-keeps : (links vendor : ℕ) (text address : List ℕ) → rules (setupFor links vendor text address .device) ≡ true
 unfolding setupFor
 setup-keeps links vendor text address =
-    chosen (λ (r : Told). rules (r .device) ≡ true) (isSetup links vendor text address) (ready-keeps links vendor text address) (λ e. refusal-keeps)
+    chosen (λ (r : Report). rules (r .device) ≡ true) (isSetup links vendor text address) (ready-keeps links vendor text address) (λ e. refusal-keeps)

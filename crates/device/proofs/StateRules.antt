@@ -13,7 +13,7 @@ use lib.Seq.{ext-getD, length-take-le}
 use Rattle.octets.specs.Padding.{pad}
 use Rattle.octets.specs.Scanning.{allFrom, allBelow, zerosFrom}
 use Rattle.octets.proofs.LawsScanning.{all-at, all-of}
-use Rattle.property.specs.Numbers.{numbers, numberAt, powerState, within}
+use Rattle.property.specs.Number.{numbers, numberAt, powerState, within}
 use Rattle.octets.proofs.LawsTests.{both-told}
 use Rattle.device.specs.declared.state.Link.{Link}
 use Rattle.device.specs.declared.state.Settings.{Settings}

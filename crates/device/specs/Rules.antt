@@ -5,7 +5,7 @@ use mathlib.Core.List.{List}
 use lib.Dec.{eqb, ltb, leb}
 use lib.ListN.{length, getD, take}
 use Rattle.octets.specs.Scanning.{allBelow, zerosFrom}
-use Rattle.property.specs.Numbers.{numberAt, powerState, interfaceUp, stackUp, within}
+use Rattle.property.specs.Number.{numberAt, powerState, interfaceUp, stackUp, within}
 use Rattle.device.specs.declared.state.Link.{Link}
 use Rattle.device.specs.declared.state.Settings.{Settings}
 use Rattle.device.specs.declared.state.Device.{Device}

@@ -6,13 +6,13 @@ use lib.Dec.{eqb, leb}
 use lib.ListN.{length, replicate}
 use Rattle.device.specs.declared.state.Settings.{Settings}
 use Rattle.device.specs.declared.state.Device.{Device}
-use Rattle.device.specs.declared.settings.Answer.{Answer}
-use Rattle.device.specs.declared.settings.Answer.the-variants.{Ready, BadSetup}
-use Rattle.device.specs.declared.settings.Configured.{Configured}
+use Rattle.device.specs.declared.set_up.Answer.{Answer}
+use Rattle.device.specs.declared.set_up.Answer.the-variants.{Ready, BadSetup}
+use Rattle.device.specs.declared.set_up.Configured.{Configured}
 use Rattle.device.specs.State.{isText, textFrom, fresh}
 
 -- 01's number of an answer, and the box
-pub record Told : Type 0 where
+pub record Report : Type 0 where
   pub number : ℕ
   pub device : Device
 
@@ -20,8 +20,8 @@ abbrev pub numberOf : Answer → ℕ
 numberOf Ready = 0
 numberOf BadSetup = 14
 
-abbrev pub told : Configured → Told
-told c = record { number = numberOf (c .answer); device = c .device }
+abbrev pub reported : Configured → Report
+reported c = record { number = numberOf (c .answer); device = c .device }
 
 -- "Links 1 to 4 .., vendor 0 to 2,097,151, version text 0 to 32 octets without a zero, hardware address of 8 octets"
 unfoldable pub isSetup : ℕ → ℕ → List ℕ → List ℕ → Bool
@@ -32,10 +32,10 @@ abbrev pub settingsFrom : ℕ → ℕ → List ℕ → List ℕ → Settings
 settingsFrom links vendor text address = record { links = links; vendor = vendor; text = textFrom text; address = address }
 
 -- "14 returns a fresh box of one link, vendor 0, empty text, zero address"
-unfoldable pub refusal : Told
+unfoldable pub refusal : Report
 refusal = record { number = 14; device = fresh (settingsFrom 1 0 [] (replicate 8 0)) }
 
 -- "anything else is 14"
-unfoldable pub setupFor : ℕ → ℕ → List ℕ → List ℕ → Told
+unfoldable pub setupFor : ℕ → ℕ → List ℕ → List ℕ → Report
 setupFor links vendor text address =
     cond (isSetup links vendor text address) (record { number = 0; device = fresh (settingsFrom links vendor text address) }) refusal

@@ -6,7 +6,7 @@ use lib.Dec.{eqb, ltb, leb}
 use lib.ListN.{length, take, replicate}
 use Rattle.octets.specs.Finding.{before}
 use Rattle.octets.specs.Padding.{pad}
-use Rattle.property.specs.Numbers.{numbers}
+use Rattle.property.specs.Number.{numbers}
 use Rattle.device.specs.declared.state.Text.{Text}
 use Rattle.device.specs.declared.state.Held.{Held}
 use Rattle.device.specs.declared.state.Link.{Link}

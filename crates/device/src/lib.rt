@@ -1,15 +1,15 @@
 // The state of the box: what setup makes, what the rules allow, what a link holds and what it sees of the rest.
 pub mod ports;
 mod rules;
-mod settings;
+mod set_up;
 mod state;
 pub mod text;
 mod view;
 
 pub use rules::stack_keeps;
-pub use settings::Answer;
-pub use settings::Configured;
-pub use settings::setup;
+pub use set_up::Answer;
+pub use set_up::Configured;
+pub use set_up::setup;
 pub use state::Device;
 pub use state::Held;
 pub use state::Link;

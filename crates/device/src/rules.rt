@@ -94,7 +94,7 @@ fn link_keeps(link: Link) -> bool
     let port_octets = ports.octets;
     let name_len = name.len;
     let ports_len = ports.len;
-    if status::MOST < link.status {
+    if status::MAX < link.status {
         return false;
     }
     if numbers_keep(numbers) {
@@ -143,11 +143,11 @@ fn link_is_kept(link: Link, k: usize, links: usize) -> bool
     is_fresh(link)
 }
 
-fn links_keep(links: [Link; Device::MOST_LINKS], count: usize) -> bool
+fn links_keep(links: [Link; Device::MAX_LINKS], count: usize) -> bool
     ensures { λ r. ⌜ r ≡ allBelow 4 (λ k. linkKept count (getD links k noLink) k) ⌝ }
 {
     let mut k: usize = 0;
-    while k < Device::MOST_LINKS {
+    while k < Device::MAX_LINKS {
         if link_is_kept(links[k], k, count) {
             k += 1;
         } else {
@@ -167,10 +167,10 @@ impl Settings {
         if self.links < 1 {
             return false;
         }
-        if Device::MOST_LINKS < self.links {
+        if Device::MAX_LINKS < self.links {
             return false;
         }
-        if Device::MOST_VENDOR < self.vendor {
+        if Device::MAX_VENDOR < self.vendor {
             return false;
         }
         text_keeps(&octets, len)

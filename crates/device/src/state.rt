@@ -10,13 +10,13 @@ ghost use Rattle.device.specs.State.{heldFrom, textFrom, freshLink, fres
 
 // The version text that setup gave.
 pub struct Text {
-    pub octets: [u8; Device::MOST_TEXT],
+    pub octets: [u8; Device::MAX_TEXT],
     pub len: usize,
 }
 
 // Octets that a link holds: its name, or its ports as they travel, two octets each.
 pub struct Held {
-    pub octets: [u8; Link::MOST_HELD],
+    pub octets: [u8; Link::MAX_HELD],
     pub len: usize,
 }
 
@@ -40,7 +40,7 @@ pub struct Settings {
 pub struct Device {
     pub settings: Settings,
     pub power: u8,
-    pub links: [Link; Device::MOST_LINKS],
+    pub links: [Link; Device::MAX_LINKS],
 }
 
 impl Text {
@@ -48,7 +48,7 @@ impl Text {
         requires { ⌜ length (now octets) ≤ 32 ⌝ }
         ensures { λ r. ⌜ r ≡ textFrom (now (octets .entry)) ⌝ }
     {
-        let mut padded = [0u8; Device::MOST_TEXT];
+        let mut padded = [0u8; Device::MAX_TEXT];
         let len = write_octets(&mut padded, 0, octets);
         Text {
             octets: padded,
@@ -63,7 +63,7 @@ impl Held {
         requires { ⌜ length (now first) + length (now second) ≤ 16 ⌝ }
         ensures { λ r. ⌜ r ≡ heldFrom (now (first .entry) ++ now (second .entry)) ⌝ }
     {
-        let mut padded = [0u8; Link::MOST_HELD];
+        let mut padded = [0u8; Link::MAX_HELD];
         let next = write_octets(&mut padded, 0, first);
         let len = write_octets(&mut padded, next, second);
         Held {
@@ -75,11 +75,11 @@ impl Held {
 
 impl Link {
     // The most octets of a name.
-    pub const MOST_NAME: usize = 16;
+    pub const MAX_NAME: usize = 16;
     // The most assisting ports.
-    pub const MOST_PORTS: usize = 8;
+    pub const MAX_PORTS: usize = 8;
     // The octets of either.
-    pub const MOST_HELD: usize = 16;
+    pub const MAX_HELD: usize = 16;
 
     // A link with every default.
     pub fn fresh() -> Link
@@ -89,11 +89,11 @@ impl Link {
             status: status::RESET_SOFTWARE,
             numbers: [0, 11, 0, 65535, 0, 0, 0, 240, 65534],
             name: Held {
-                octets: [0; Link::MOST_HELD],
+                octets: [0; Link::MAX_HELD],
                 len: 0,
             },
             ports: Held {
-                octets: [0; Link::MOST_HELD],
+                octets: [0; Link::MAX_HELD],
                 len: 0,
             },
         }
@@ -101,24 +101,24 @@ impl Link {
 }
 
 impl Device {
-    pub const MOST_LINKS: usize = 4;
+    pub const MAX_LINKS: usize = 4;
 
-    pub const MOST_VENDOR: u32 = 2097151;
+    pub const MAX_VENDOR: u32 = 2097151;
     // The most octets of the version text.
-    pub const MOST_TEXT: usize = 32;
+    pub const MAX_TEXT: usize = 32;
     // The octets of the hardware address.
     pub const ADDRESS: usize = 8;
     // The most octets of a reply body.
-    pub const MOST_REPLY: usize = 61;
+    pub const MAX_REPLY: usize = 61;
     // The least output space of a receiving call: any reply's frame fits.
-    pub const LEAST_OUTPUT: usize = 128;
+    pub const MIN_OUTPUT: usize = 128;
 
     // A box as after a reset.
     pub fn fresh(settings: Settings) -> Device
         ensures { λ r. ⌜ r ≡ fresh settings ⌝ }
     {
         let link = Link::fresh();
-        let links = [link; Device::MOST_LINKS];
+        let links = [link; Device::MAX_LINKS];
         Device {
             settings,
             power: 4,

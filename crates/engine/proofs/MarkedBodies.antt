@@ -5,16 +5,16 @@ use Rattle.octets.specs.Finding.{before}
 use Rattle.octets.specs.LittleEndian.{le, leOctets}
 use Rattle.octets.specs.Padding.{pad}
 use Rattle.packed.specs.Packed.{packed, packedIn, joined, numberIn, packedAt}
-use Rattle.property.specs.Rows.{rows, lookupIn, lookup, allows}
-use Rattle.property.specs.Numbers.{numbers, within}
+use Rattle.property.specs.Row.{rows, lookupIn, lookup, allows}
+use Rattle.property.specs.Number.{numbers, within}
 use Rattle.device.specs.State.{goodText, isText, portsIn, holds, distinct, defaults, fresh}
 use Rattle.device.specs.Setup.{isSetup, refusal, setupFor}
 use Rattle.device.specs.View.{powerAfter}
 use Rattle.request.specs.Verdict.{commandOf, byRow, byProperty, byCommand, verdict}
 use Rattle.method.specs.Perform.{getWith, valueIn, conflicts, numberTo, setNumber, powerTo, setPower, setName, setPorts, setKind, insertPort, without, removePort, perform}
 use Rattle.reply.specs.Value.{fixedValue, numberValue, valueOf}
-use Rattle.reply.specs.Reply.{statusReply, replyCommand, content, replied}
-use Rattle.command.specs.Decide.{replying, concluded, reached, judgedBy, judged, reported, decisionOf, decide}
+use Rattle.reply.specs.Reply.{statusReply, replyCommand, content, successReply}
+use Rattle.command.specs.Decision.{replying, concluded, reached, judgedBy, judged, statusDecision, decisionOf, decide}
 use Rattle.engine.specs.Engine.{linkOf, isSetUp, affect, settled, engine}
 use Rattle.engine.specs.Merged.{repliesTo}
 use Rattle.engine.specs.Marked.{freshBox, marked}
@@ -23,13 +23,13 @@ pub marked-bodies : map (λ l. repliesTo freshBox (l .bodies)) marked ≡ map (�
 unfolding before le leOctets pad packed packedIn joined numberIn packedAt rows lookupIn lookup allows numbers within
     goodText isText portsIn holds distinct defaults fresh isSetup refusal setupFor powerAfter commandOf byRow byProperty byCommand verdict
     getWith valueIn conflicts numberTo setNumber powerTo setPower setName setPorts setKind insertPort without removePort perform
-    fixedValue numberValue valueOf statusReply replyCommand content replied replying concluded reached judgedBy judged reported decisionOf
+    fixedValue numberValue valueOf statusReply replyCommand content successReply replying concluded reached judgedBy judged statusDecision decisionOf
     decide linkOf isSetUp affect settled engine freshBox repliesTo marked
 marked-bodies = refl
 
 -- the shortest reply: 82 02 5C on a fresh box gives 82 06 5C
 pub three-octets : repliesTo freshBox ((0x82 ∷ 0x02 ∷ 0x5C ∷ []) ∷ []) ≡ (0x82 ∷ 0x06 ∷ 0x5C ∷ []) ∷ []
 unfolding before pad packed packedIn joined numberIn packedAt rows lookupIn lookup allows numbers goodText isText defaults fresh isSetup
-    refusal setupFor powerAfter commandOf byRow byProperty byCommand verdict getWith perform valueOf replyCommand content replied replying
+    refusal setupFor powerAfter commandOf byRow byProperty byCommand verdict getWith perform valueOf replyCommand content successReply replying
     concluded reached judgedBy judged decisionOf decide linkOf isSetUp affect settled engine freshBox repliesTo
 three-octets = refl

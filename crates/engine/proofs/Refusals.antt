@@ -13,7 +13,7 @@ use Rattle.device.specs.declared.view.Effect.{Effect}
 use Rattle.device.specs.View.{viewOf}
 use Rattle.request.specs.Verdict.{headerOf}
 use Rattle.reply.specs.Reply.{statusReply}
-use Rattle.command.specs.Decide.{withStatus, stopped, noop, success, judged, reported, decisionOf, decide}
+use Rattle.command.specs.Decision.{withStatus, stopped, noop, success, judged, statusDecision, decisionOf, decide}
 use Rattle.command.proofs.LawsJudged.{judged-sound}
 use Rattle.engine.specs.Engine.{linkOf, isSetUp, affect, settled, engine}
 
@@ -24,12 +24,12 @@ statusSet d k s = record { settings = d .settings; power = d .power; links = set
 module _ (d : Device) (b : List ℕ) (up : isSetUp (d .settings) b ≡ true) where
   pub refusal-status : (s : ℕ) → judged (viewOf (linkOf b) d) b ≡ stopped s
       → engine d b ≡ record { device = statusSet d (linkOf b) s; reply = statusReply (headerOf b) s }
-  unfolding engine settled decide decisionOf reported affect
+  unfolding engine settled decide decisionOf statusDecision affect
   refusal-status s e = rw (up, e)
 
   pub noop-status : judged (viewOf (linkOf b) d) b ≡ noop
       → engine d b ≡ record { device = statusSet d (linkOf b) 0; reply = statusReply (headerOf b) 0 }
-  unfolding engine settled decide decisionOf reported affect
+  unfolding engine settled decide decisionOf statusDecision affect
   noop-status e = rw (up, e)
 
 -- a success other than NOOP and RESET leaves the last status that the link had

@@ -12,15 +12,15 @@ use Rattle.device.proofs.StateRules.{settings-of, link-at}
 use Rattle.device.specs.View.{viewOf}
 use Rattle.request.specs.Verdict.{headerOf}
 use Rattle.reply.specs.Reply.{statusReply}
-use Rattle.command.specs.Decide.{judged, decide}
+use Rattle.command.specs.Decision.{judged, decide}
 use Rattle.command.proofs.LawsJudged.{judged-sound}
 use Rattle.command.proofs.LawsDecisions.{Bounded, by-judged}
-use Rattle.engine.specs.Engine.{linkOf, isSetUp, Answer, settled, engine}
+use Rattle.engine.specs.Engine.{linkOf, isSetUp, Response, settled, engine}
 
 pub reply-bounds : (d : Device) (b : List ℕ) → rules d ≡ true → Bounded (engine d b .reply)
 unfolding engine settled decide isSetUp statusReply
 reply-bounds d b t =
-    chosen (λ (a : Answer). Bounded (a .reply)) (isSetUp (d .settings) b)
+    chosen (λ (a : Response). Bounded (a .reply)) (isSetUp (d .settings) b)
     (λ e. by-judged (viewOf (linkOf b) d) (headerOf b) (judged (viewOf (linkOf b) d) b)
     (judged-sound (viewOf (linkOf b) d) (settings-of d t) (link-at d t (linkOf b) (ltb-true (linkOf b) (d .settings .links) e)) b))
     (λ e. (omega arith, omega arith))

@@ -9,7 +9,7 @@ use lib.Dec.{eqb}
 use lib.ListN.{length, getD, set, length-set}
 use lib.Seq.{getD-set-same, getD-set-other}
 use Rattle.octets.proofs.LawsTests.{by-test, chosen, and-r}
-use Rattle.property.specs.Numbers.{powerState, within}
+use Rattle.property.specs.Number.{powerState, within}
 use Rattle.device.specs.State.{noLink}
 use Rattle.device.specs.Rules.{linkRule, linkKept, rules}
 use Rattle.device.specs.declared.state.Link.{Link}

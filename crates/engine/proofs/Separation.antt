@@ -23,7 +23,7 @@ use Rattle.device.specs.declared.view.View.{View}
 use Rattle.device.specs.declared.view.Effect.{Effect}
 use Rattle.device.specs.declared.view.Effect.the-variants.{None, Reset, Powered}
 use Rattle.device.specs.View.{viewOf}
-use Rattle.command.specs.Decide.{decide}
+use Rattle.command.specs.Decision.{decide}
 use Rattle.command.specs.Effects.{isReset, effectOf}
 use Rattle.command.proofs.EffectsByOctets.{decide-effect}
 use Rattle.engine.specs.Engine.{linkOf, isSetUp, affect, settled, engine}

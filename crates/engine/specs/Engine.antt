@@ -13,7 +13,7 @@ use Rattle.device.specs.declared.view.Effect.the-variants.{None, Reset, Powered
 use Rattle.device.specs.View.{viewOf}
 use Rattle.request.specs.Verdict.{headerOf}
 use Rattle.reply.specs.Reply.{statusReply}
-use Rattle.command.specs.Decide.{Decision, decide}
+use Rattle.command.specs.Decision.{Decision, decide}
 
 -- "two bits 10, two bits link, four bits transaction"
 unfoldable pub linkOf : List ℕ → ℕ
@@ -28,15 +28,15 @@ affect None d k l = record { settings = d .settings; power = d .power; links = s
 affect Reset d k l = fresh (d .settings)
 affect (Powered x) d k l = record { settings = d .settings; power = x; links = set (d .links) k l }
 
-pub record Answer : Type 0 where
+pub record Response : Type 0 where
   pub device : Device
   pub reply : List ℕ
 
-unfoldable pub settled : Device → ℕ → Decision → Answer
+unfoldable pub settled : Device → ℕ → Decision → Response
 settled d k o = record { device = affect (o .effect) d k (o .link); reply = o .reply }
 
 -- step 1, "link not set up: status 6"; "An unset link has none", so nothing changes
-unfoldable pub engine : Device → List ℕ → Answer
+unfoldable pub engine : Device → List ℕ → Response
 engine d b =
     cond (isSetUp (d .settings) b)
     (settled d (linkOf b) (decide (viewOf (linkOf b) d) b))

@@ -13,7 +13,7 @@ use Rattle.device.specs.declared.view.Effect.{Effect}
 use Rattle.device.specs.declared.view.Effect.the-variants.{None, Reset, Powered}
 use Rattle.request.specs.Verdict.{headerOf}
 use Rattle.reply.specs.Reply.{statusReply}
-use Rattle.command.specs.Decide.{decide}
+use Rattle.command.specs.Decision.{decide}
 use Rattle.command.specs.Effects.{isReset, effectOf}
 use Rattle.engine.specs.Engine.{linkOf, isSetUp, engine}
 

@@ -1,5 +1,5 @@
 // The command engine: one checked body in, one reply body and the next state of the box out.
-mod body;
+mod engine;
 
-pub use body::Answered;
-pub use body::answer;
+pub use engine::Answered;
+pub use engine::answer;

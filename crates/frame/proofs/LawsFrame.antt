@@ -15,24 +15,24 @@ use Rattle.octets.proofs.LawsLists.{drop-next, octets-front, octets-rest}
 use Rattle.octets.proofs.LawsLittleEndian.{length-le}
 use Rattle.octets.proofs.LawsRuns.{each-append}
 use Rattle.octets.proofs.LawsWriting.{front-count, front-held}
-use Rattle.frame.specs.declared.kind.Kind.{Kind}
-use Rattle.frame.specs.declared.kind.Kind.the-variants.{Flag, Escape, Skipped, Plain}
-use Rattle.frame.specs.Kinds.{kindOf}
+use Rattle.frame.specs.declared.kind.OctetKind.{OctetKind}
+use Rattle.frame.specs.declared.kind.OctetKind.the-variants.{Flag, Escape, Skipped, Plain}
+use Rattle.frame.specs.Kind.{kindOf}
 use Rattle.frame.specs.Fcs.{fcs}
 use Rattle.frame.specs.Frame.{sent, stuffed, checked, frame, written, writing}
-use Rattle.frame.proofs.kind.Kind.{the-type as kind-type}
+use Rattle.frame.proofs.kind.OctetKind.{the-type as kind-type}
 use Rattle.frame.proofs.LawsKinds.{Tests, by-octet, flags, escapes, skips, kind-tests}
 
-pub sent-plain : {k : Kind} (b : ℕ) → k ≡ kindOf b → k ≡ Plain → sent b ≡ b ∷ []
+pub sent-plain : {k : OctetKind} (b : ℕ) → k ≡ kindOf b → k ≡ Plain → sent b ≡ b ∷ []
 unfolding sent
 sent-plain b e p = let t = kind-tests b (sym p ∙ e) in simp (t .flag, t .escape, t .skipped)
 
 -- the `else` of an `if let` tells that the tag is one of the others
-pub sent-escaped : {k : Kind} (b : ℕ) → k ≡ kindOf b → OneOf (0 ∷ 1 ∷ 2 ∷ []) (tagOf kind-type k) → sent b ≡ 0x7d ∷ bitXor b 0x20 ∷ []
+pub sent-escaped : {k : OctetKind} (b : ℕ) → k ≡ kindOf b → OneOf (0 ∷ 1 ∷ 2 ∷ []) (tagOf kind-type k) → sent b ≡ 0x7d ∷ bitXor b 0x20 ∷ []
 unfolding sent
 sent-escaped {k} b e o = by-kind k (kind-tests b e) o
   where
-    by-kind : (k : Kind) → Tests b (flags k) (escapes k) (skips k) → OneOf (0 ∷ 1 ∷ 2 ∷ []) (tagOf kind-type k) → sent b ≡ 0x7d ∷ bitXor b 0x20 ∷ []
+    by-kind : (k : OctetKind) → Tests b (flags k) (escapes k) (skips k) → OneOf (0 ∷ 1 ∷ 2 ∷ []) (tagOf kind-type k) → sent b ≡ 0x7d ∷ bitXor b 0x20 ∷ []
     by-kind Flag t o = simp (t .flag)
     by-kind Escape t o = simp (t .flag, t .escape)
     by-kind Skipped t o = simp (t .flag, t .escape, t .skipped)

@@ -5,9 +5,9 @@ use Prim.Native.Nat.{ℕ}
 use borrow.Author.Tests.{eqb-true}
 use lib.Dec.{eqb}
 use Rattle.octets.proofs.LawsTests.{by-test}
-use Rattle.frame.specs.declared.kind.Kind.{Kind}
-use Rattle.frame.specs.declared.kind.Kind.the-variants.{Flag, Escape, Skipped, Plain}
-use Rattle.frame.specs.Kinds.{isFlag, isEscape, isSkipped, kindOf}
+use Rattle.frame.specs.declared.kind.OctetKind.{OctetKind}
+use Rattle.frame.specs.declared.kind.OctetKind.the-variants.{Flag, Escape, Skipped, Plain}
+use Rattle.frame.specs.Kind.{isFlag, isEscape, isSkipped, kindOf}
 
 -- the answers of the three tests
 pub record Tests (b : ℕ) (f e s : Bool) : Type 0 where
@@ -28,19 +28,19 @@ by-octet P flag escape xon xoff f8 plain b =
 
 -- ---- what a kind tells
 
-abbrev pub flags : Kind → Bool
+abbrev pub flags : OctetKind → Bool
 flags Flag = true
 flags Escape = false
 flags Skipped = false
 flags Plain = false
 
-abbrev pub escapes : Kind → Bool
+abbrev pub escapes : OctetKind → Bool
 escapes Flag = false
 escapes Escape = true
 escapes Skipped = false
 escapes Plain = false
 
-abbrev pub skips : Kind → Bool
+abbrev pub skips : OctetKind → Bool
 skips Flag = false
 skips Escape = false
 skips Skipped = true
@@ -61,5 +61,5 @@ tests =
     (record { flag = refl; escape = refl; skipped = refl })
     (λ b t. subst (λ k. Tests b (flags k) (escapes k) (skips k)) (sym (plain-kind b t)) t)
 
-pub kind-tests : {k : Kind} (b : ℕ) → k ≡ kindOf b → Tests b (flags k) (escapes k) (skips k)
+pub kind-tests : {k : OctetKind} (b : ℕ) → k ≡ kindOf b → Tests b (flags k) (escapes k) (skips k)
 kind-tests b e = subst (λ z. Tests b (flags z) (escapes z) (skips z)) (sym e) (tests b)

@@ -6,7 +6,7 @@ use lib.Bits.{bitXor}
 use lib.ListN.{length, drop}
 use Rattle.octets.specs.Runs.{each}
 use Rattle.octets.specs.LittleEndian.{leOctets}
-use Rattle.frame.specs.Kinds.{isFlag, isEscape, isSkipped}
+use Rattle.frame.specs.Kind.{isFlag, isEscape, isSkipped}
 use Rattle.frame.specs.Fcs.{fcs}
 
 -- "Bodies have 2 to 1,300 octets"

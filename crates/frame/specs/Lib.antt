@@ -1,3 +1,3 @@
 pub mod Fcs
-pub mod Kinds
+pub mod Kind
 pub mod Frame

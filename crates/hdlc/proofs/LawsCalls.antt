@@ -11,11 +11,11 @@ use lib.Dec.{ltb, eqb}
 use lib.ListN.{length}
 use Rattle.octets.proofs.LawsRuns.{each-append}
 use Rattle.octets.proofs.LawsTests.{by-test}
-use Rattle.frame.specs.Kinds.{isFlag}
+use Rattle.frame.specs.Kind.{isFlag}
 use Rattle.hdlc.specs.declared.reader.Fate.the-variants.{Unfinished}
-use Rattle.hdlc.specs.Reading.{decided, judged, mostGathered, fresh, Held, held, run}
-use Rattle.hdlc.specs.Wire.{kept, gathered, cutEscape, verdict, ended, grown, finished, unfinished, told, verdicts, Call, verdictAt, call, callReads}
-use Rattle.hdlc.specs.States.{readerAfter, over, holding, closed}
+use Rattle.hdlc.specs.Reader.{decided, frameFate, maxGathered, fresh, Assembling, assembling, run}
+use Rattle.hdlc.specs.Wire.{kept, gathered, cutEscape, pieceFate, ended, grown, finished, unfinished, fated, fatesOf, Call, pieceFateAt, call, callReads}
+use Rattle.hdlc.specs.States.{readerAfter, over, holding, closedForm}
 use Rattle.hdlc.proofs.LawsFates.{told-judged}
 use Rattle.hdlc.proofs.LawsStates.{over-few, over-length, decides-flag}
 use Rattle.hdlc.proofs.ClosedForm.{call-closed}
@@ -23,77 +23,77 @@ use Rattle.hdlc.proofs.ClosedForm.{call-closed}
 -- ---- the octets that a call read
 
 -- the verdict of the piece that an octet ends
-told-ends : (p : List ℕ) (b : ℕ) → verdicts (ended p b) ≡ told (verdictAt p b) (gathered p)
-unfolding verdicts ended verdictAt told
-told-ends p b = by-test (isFlag b) (λ f. simp f (append-nil (told (verdict p) (gathered p)))) (λ f. simp f)
+told-ends : (p : List ℕ) (b : ℕ) → fatesOf (ended p b) ≡ fated (pieceFateAt p b) (gathered p)
+unfolding fatesOf ended pieceFateAt fated
+told-ends p b = by-test (isFlag b) (λ f. simp f (append-nil (fated (pieceFate p) (gathered p)))) (λ f. simp f)
 
 -- what a call read finishes the piece with its fate, if any, and leaves the piece that it ended in or nothing
 pub record Reads (p xs : List ℕ) : Type 0 where
-  pub tells : verdicts (finished p (callReads p xs)) ≡ told (call p xs .fate) (gathered (call p xs .state))
+  pub tells : fatesOf (finished p (callReads p xs)) ≡ fated (call p xs .fate) (gathered (call p xs .state))
   pub leaves : unfinished p (callReads p xs) ≡ cond (decided (call p xs .fate)) [] (call p xs .state)
 
 pub reads : (xs p : List ℕ) → Reads p xs
-unfolding callReads call finished unfinished grown verdicts told
+unfolding callReads call finished unfinished grown fatesOf fated
 reads [] p = record { tells = refl; leaves = refl }
 reads (b ∷ bs) p =
-    by-test (decided (verdictAt p b))
+    by-test (decided (pieceFateAt p b))
     (λ t.
     record {
-      tells = simp t (ap verdicts (append-nil (ended p b)) ∙ told-ends p b ∙ simp t);
+      tells = simp t (ap fatesOf (append-nil (ended p b)) ∙ told-ends p b ∙ simp t);
       leaves = simp (t, decides-flag p b t);
     })
     (λ t.
     let rest = reads bs (grown p b) in
-    let none : verdicts (ended p b) ≡ [] = told-ends p b ∙ simp t in
+    let none : fatesOf (ended p b) ≡ [] = told-ends p b ∙ simp t in
     record {
-      tells = simp (t, one-add) (each-append _ (ended p b) _ ∙ ap (λ l. l ++ verdicts (finished (grown p b) (callReads (grown p b) bs))) none ∙ rest .tells);
+      tells = simp (t, one-add) (each-append _ (ended p b) _ ∙ ap (λ l. l ++ fatesOf (finished (grown p b) (callReads (grown p b) bs))) none ∙ rest .tells);
       leaves = simp (t, one-add) (rest .leaves);
     })
 
 -- ---- the body stands first in the buffer
 
 -- a call's fate is that of the piece that it ended in, if it has one
-pub call-verdict : (xs p : List ℕ) → (call p xs .fate ≡ Unfinished) ⊎ (call p xs .fate ≡ verdict (call p xs .state))
-unfolding call verdictAt
+pub call-verdict : (xs p : List ℕ) → (call p xs .fate ≡ Unfinished) ⊎ (call p xs .fate ≡ pieceFate (call p xs .state))
+unfolding call pieceFateAt
 call-verdict [] p = inl refl
 call-verdict (b ∷ bs) p =
-    by-test (decided (verdictAt p b)) (λ t. simp t (inr (simp (decides-flag p b t)))) (λ t. simp t (call-verdict bs (grown p b)))
+    by-test (decided (pieceFateAt p b)) (λ t. simp t (inr (simp (decides-flag p b t)))) (λ t. simp t (call-verdict bs (grown p b)))
 
-told-over : (p a : List ℕ) → told (verdict p) (over (gathered p) a) ≡ told (verdict p) (gathered p)
-unfolding verdict told
+told-over : (p a : List ℕ) → fated (pieceFate p) (over (gathered p) a) ≡ fated (pieceFate p) (gathered p)
+unfolding pieceFate fated
 told-over p a =
-    by-test (ltb mostGathered (length (gathered p))) (λ t. simp t)
+    by-test (ltb maxGathered (length (gathered p))) (λ t. simp t)
     (λ t. simp t
     (by-test (cutEscape p) (λ u. simp u)
     (λ u. simp u
     (by-test (eqb (length (gathered p)) 0) (λ v. simp v)
     (λ v. simp v
-    (ap (told (judged (gathered p))) (over-few (gathered p) a (ltb-false _ _ t)) ∙ told-judged (gathered p) _))))))
+    (ap (fated (frameFate (gathered p))) (over-few (gathered p) a (ltb-false _ _ t)) ∙ told-judged (gathered p) _))))))
 
-told-call : (p a xs : List ℕ) → told (call p xs .fate) (over (gathered (call p xs .state)) a) ≡ told (call p xs .fate) (gathered (call p xs .state))
-unfolding told
+told-call : (p a xs : List ℕ) → fated (call p xs .fate) (over (gathered (call p xs .state)) a) ≡ fated (call p xs .fate) (gathered (call p xs .state))
+unfolding fated
 told-call p a xs =
     let q = call p xs .state in
-    ⊎-elim (λ e. ap (λ f. told f (over (gathered q) a)) e ∙ sym (ap (λ f. told f (gathered q)) e))
-    (λ e. ap (λ f. told f (over (gathered q) a)) e ∙ told-over q a ∙ sym (ap (λ f. told f (gathered q)) e)) (call-verdict xs p)
+    ⊎-elim (λ e. ap (λ f. fated f (over (gathered q) a)) e ∙ sym (ap (λ f. fated f (gathered q)) e))
+    (λ e. ap (λ f. fated f (over (gathered q) a)) e ∙ told-over q a ∙ sym (ap (λ f. fated f (gathered q)) e)) (call-verdict xs p)
 
 -- ---- what a call leaves
 
 -- a reader after a piece, over some buffer with room: its gathered octets stand at the front of the assembly buffer
-pub record After (p : List ℕ) (h : Held) : Type 0 where
+pub record After (p : List ℕ) (h : Assembling) : Type 0 where
   pub under : List ℕ
-  pub room : mostGathered ≤ length under
+  pub room : maxGathered ≤ length under
   pub state : h ≡ holding p under
 
-decided-state : (c : Call) (a : List ℕ) → decided (c .fate) ≡ true → closed c a .state ≡ holding [] (over (gathered (c .state)) a)
-unfolding closed holding readerAfter gathered cutEscape kept over
-decided-state c a t = ap (λ z. held (cond z fresh (readerAfter (c .state))) (over (gathered (c .state)) a)) t
+decided-state : (c : Call) (a : List ℕ) → decided (c .fate) ≡ true → closedForm c a .state ≡ holding [] (over (gathered (c .state)) a)
+unfolding closedForm holding readerAfter gathered cutEscape kept over
+decided-state c a t = ap (λ z. assembling (cond z fresh (readerAfter (c .state))) (over (gathered (c .state)) a)) t
 
-undecided-state : (c : Call) (a : List ℕ) → decided (c .fate) ≡ false → closed c a .state ≡ holding (c .state) a
-unfolding closed holding
-undecided-state c a t = ap (λ z. held (cond z fresh (readerAfter (c .state))) (over (gathered (c .state)) a)) t
+undecided-state : (c : Call) (a : List ℕ) → decided (c .fate) ≡ false → closedForm c a .state ≡ holding (c .state) a
+unfolding closedForm holding
+undecided-state c a t = ap (λ z. assembling (cond z fresh (readerAfter (c .state))) (over (gathered (c .state)) a)) t
 
-pub after-call : (p a xs : List ℕ) → mostGathered ≤ length a → After (unfinished p (callReads p xs)) (run (holding p a) xs .state)
+pub after-call : (p a xs : List ℕ) → maxGathered ≤ length a → After (unfinished p (callReads p xs)) (run (holding p a) xs .state)
 after-call p a xs room =
     let c = call p xs in
     let q = c .state in
@@ -107,15 +107,15 @@ after-call p a xs room =
     })
     (λ t. record { under = a; room = room; state = is ∙ undecided-state c a t ∙ ap (λ z. holding z a) (sym (left ∙ simp t)) })
 
-closed-told : (c : Call) (a : List ℕ) → told (closed c a .fate) (closed c a .state .assembly) ≡ told (c .fate) (over (gathered (c .state)) a)
-unfolding closed
+closed-told : (c : Call) (a : List ℕ) → fated (closedForm c a .fate) (closedForm c a .state .assembly) ≡ fated (c .fate) (over (gathered (c .state)) a)
+unfolding closedForm
 closed-told c a = refl
 
 -- what a call tells is the verdict of the piece that it finished, if any
-pub call-tells : (p a xs : List ℕ) → mostGathered ≤ length a
-    → told (run (holding p a) xs .fate) (run (holding p a) xs .state .assembly) ≡ verdicts (finished p (callReads p xs))
+pub call-tells : (p a xs : List ℕ) → maxGathered ≤ length a
+    → fated (run (holding p a) xs .fate) (run (holding p a) xs .state .assembly) ≡ fatesOf (finished p (callReads p xs))
 call-tells p a xs room =
-    ap (λ o. told (o .fate) (o .state .assembly)) (call-closed xs p a room) ∙ closed-told (call p xs) a ∙ told-call p a xs ∙ sym (reads xs p .tells)
+    ap (λ o. fated (o .fate) (o .state .assembly)) (call-closed xs p a room) ∙ closed-told (call p xs) a ∙ told-call p a xs ∙ sym (reads xs p .tells)
 
 -- ---- how much it reads
 
@@ -124,9 +124,9 @@ pub reads-all : (xs p : List ℕ) → decided (call p xs .fate) ≡ false → ca
 unfolding call
 reads-all [] p = λ e. refl
 reads-all (b ∷ bs) p =
-    by-test (decided (verdictAt p b)) (λ t. simp t (λ e. absurd (true≢false e))) (λ t. simp (t, one-add) (λ e. ap suc (reads-all bs (grown p b) e)))
+    by-test (decided (pieceFateAt p b)) (λ t. simp t (λ e. absurd (true≢false e))) (λ t. simp (t, one-add) (λ e. ap suc (reads-all bs (grown p b) e)))
 
 pub reads-some : (xs p : List ℕ) → decided (call p xs .fate) ≡ true → (1 ≤ call p xs .read) × (1 ≤ length xs)
 unfolding call
 reads-some [] p = λ e. absurd (false≢true e)
-reads-some (b ∷ bs) p = by-test (decided (verdictAt p b)) (λ t. simp t (λ e. omega arith)) (λ t. simp t (λ e. omega arith))
+reads-some (b ∷ bs) p = by-test (decided (pieceFateAt p b)) (λ t. simp t (λ e. omega arith)) (λ t. simp t (λ e. omega arith))

@@ -11,8 +11,8 @@ use lib.Seq.{length-take-le, take-length, take-append-seam, getD-take}
 use Rattle.octets.proofs.LawsTests.{by-test, impossible}
 use Rattle.frame.specs.Fcs.{fcs}
 use Rattle.hdlc.specs.declared.reader.Fate.the-variants.{Checked, BadHeader}
-use Rattle.hdlc.specs.Reading.{decided, bodyOf, checkOf, headed, judged}
-use Rattle.hdlc.specs.Wire.{told}
+use Rattle.hdlc.specs.Reader.{decided, bodyOf, checkOf, headed, frameFate}
+use Rattle.hdlc.specs.Wire.{fated}
 
 -- the header is the first octet gathered, and the body all but the last two
 pub headed-gathered : (g : List ℕ) → 4 ≤ length g → headed (bodyOf g) ≡ cond (eqb (getD g 0 0 / 64) 2) (Checked (length g - 2)) BadHeader
@@ -22,8 +22,8 @@ headed-gathered g long =
     (length-take-le (length g - 2) g (omega arith))
 
 -- a checked body: its length and its header
-pub judged-checked : (g : List ℕ) (n : ℕ) → judged g ≡ Checked n → (4 ≤ length g) × (n ≡ length g - 2) × (getD g 0 0 / 64 ≡ 2)
-unfolding judged
+pub judged-checked : (g : List ℕ) (n : ℕ) → frameFate g ≡ Checked n → (4 ≤ length g) × (n ≡ length g - 2) × (getD g 0 0 / 64 ≡ 2)
+unfolding frameFate
 judged-checked g n =
     by-test (ltb (length g) 4) (λ t. simp t (λ e. impossible cc))
     (λ t.
@@ -42,30 +42,30 @@ pub headed-decided : (body : List ℕ) → decided (headed body) ≡ true
 unfolding headed
 headed-decided body = by-test (eqb (getD body 0 0 / 64) 2) (λ t. simp t) (λ t. simp t)
 
-pub judged-decided : (g : List ℕ) → decided (judged g) ≡ true
-unfolding judged
+pub judged-decided : (g : List ℕ) → decided (frameFate g) ≡ true
+unfolding frameFate
 judged-decided g =
     by-test (ltb (length g) 4) (λ t. simp t)
     (λ t. simp t (by-test (eqb (checkOf g) (fcs (bodyOf g))) (λ u. simp u (headed-decided (bodyOf g))) (λ u. simp u)))
 
 -- of a body that stands first, what follows it does not matter
-pub told-headed : (body xs : List ℕ) → told (headed body) (body ++ xs) ≡ told (headed body) body
-unfolding told headed
+pub told-headed : (body xs : List ℕ) → fated (headed body) (body ++ xs) ≡ fated (headed body) body
+unfolding fated headed
 told-headed body xs =
     by-test (eqb (getD body 0 0 / 64) 2)
     (λ t. simp t (ap (λ l. record { number = 1; body = l } ∷ []) (take-append-seam body xs ∙ sym (take-length body)))) (λ t. simp t)
 
-front : (g xs : List ℕ) → told (headed (bodyOf g)) (g ++ xs) ≡ told (headed (bodyOf g)) g
+front : (g xs : List ℕ) → fated (headed (bodyOf g)) (g ++ xs) ≡ fated (headed (bodyOf g)) g
 unfolding bodyOf
 front g xs =
     let body = bodyOf g in
     let rest = drop (length g - 2) g in
-    let same : told (headed body) ((body ++ rest) ++ xs) ≡ told (headed body) (body ++ rest) =
-    ap (told (headed body)) (append-assoc body rest xs) ∙ told-headed body (rest ++ xs) ∙ sym (told-headed body rest) in
-    subst (λ l. told (headed body) (l ++ xs) ≡ told (headed body) l) (take-append-drop (length g - 2) g) same
+    let same : fated (headed body) ((body ++ rest) ++ xs) ≡ fated (headed body) (body ++ rest) =
+    ap (fated (headed body)) (append-assoc body rest xs) ∙ told-headed body (rest ++ xs) ∙ sym (told-headed body rest) in
+    subst (λ l. fated (headed body) (l ++ xs) ≡ fated (headed body) l) (take-append-drop (length g - 2) g) same
 
-pub told-judged : (g xs : List ℕ) → told (judged g) (g ++ xs) ≡ told (judged g) g
-unfolding told judged
+pub told-judged : (g xs : List ℕ) → fated (frameFate g) (g ++ xs) ≡ fated (frameFate g) g
+unfolding fated frameFate
 told-judged g xs =
     by-test (ltb (length g) 4) (λ t. simp t)
     (λ t. simp t (by-test (eqb (checkOf g) (fcs (bodyOf g))) (λ u. simp u (front g xs)) (λ u. simp u)))

@@ -5,7 +5,7 @@ use mathlib.Core.List.{List, [], _∷_, _++_, append-nil, foldl, foldl-append}
 use Prim.Native.Nat.{ℕ}
 use Rattle.octets.specs.Runs.{emitted}
 use Rattle.octets.proofs.LawsRuns.{each-append, emitted-append}
-use Rattle.frame.specs.Kinds.{isSkipped}
+use Rattle.frame.specs.Kind.{isSkipped}
 use Rattle.hdlc.specs.Wire.{kept, meant, pends, gathered, cutEscape, grown, unfinished}
 
 kept-append : (p q : List ℕ) → kept (p ++ q) ≡ kept p ++ kept q

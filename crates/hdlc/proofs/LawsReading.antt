@@ -13,7 +13,7 @@ use Rattle.octets.proofs.LawsLists.{drop-next}
 use Rattle.octets.proofs.LawsTests.{chosen}
 use Rattle.hdlc.specs.declared.reader.Fate.{Fate}
 use Rattle.hdlc.specs.declared.reader.Fate.the-variants.{Unfinished, Checked, Short, WrongCheck, TooLong, CutEscape, BadHeader}
-use Rattle.hdlc.specs.Reading.{number, Held, after, fateAt, decided, Read, later, run}
+use Rattle.hdlc.specs.Reader.{fateNumber, Assembling, afterOctet, fateAt, decided, Read, later, run}
 use Rattle.hdlc.specs.Wire.{bodyIn}
 use Rattle.hdlc.proofs.reader.Fate.{the-type as fate-type}
 
@@ -28,7 +28,7 @@ tag-decided CutEscape o = refl
 tag-decided BadHeader o = refl
 
 -- and so of a fate that is not 1: it has no body
-pub tag-unchecked : (f : Fate) (xs : List ℕ) → OneOf (0 ∷ 2 ∷ 3 ∷ 4 ∷ 5 ∷ 6 ∷ []) (tagOf fate-type f) → (eqb (number f) 1 ≡ false) × (bodyIn f xs ≡ [])
+pub tag-unchecked : (f : Fate) (xs : List ℕ) → OneOf (0 ∷ 2 ∷ 3 ∷ 4 ∷ 5 ∷ 6 ∷ []) (tagOf fate-type f) → (eqb (fateNumber f) 1 ≡ false) × (bodyIn f xs ≡ [])
 tag-unchecked Unfinished xs o = (refl, refl)
 tag-unchecked (Checked n) xs o = absurd (miss (0 ∷ 2 ∷ 3 ∷ 4 ∷ 5 ∷ 6 ∷ []) 1 tt o)
 tag-unchecked Short xs o = (refl, refl)
@@ -44,15 +44,15 @@ pub later-later : {S : Type 0} (m n : ℕ) (o : Read S) → later m (later n o) 
 later-later m n o = λ i. record { fate = o .fate; read = sym (add-assoc m n (o .read)) i; state = o .state }
 
 -- a call reads no more than its input
-pub run-reads : (xs : List ℕ) (h : Held) → run h xs .read ≤ length xs
+pub run-reads : (xs : List ℕ) (h : Assembling) → run h xs .read ≤ length xs
 unfolding run
 run-reads [] h = omega arith
 run-reads (b ∷ bs) h =
-    chosen (λ (o : Read Held). o .read ≤ length (b ∷ bs)) (decided (fateAt h b)) (λ _. omega arith) (λ _. omega (arith, run-reads bs (after h b)))
+    chosen (λ (o : Read Assembling). o .read ≤ length (b ∷ bs)) (decided (fateAt h b)) (λ _. omega arith) (λ _. omega (arith, run-reads bs (afterOctet h b)))
 
 -- ---- the outcome of what is left from `at` on
 
-pub run-end : (h : Held) (xs : List ℕ) (at : ℕ) → length xs ≤ at
+pub run-end : (h : Assembling) (xs : List ℕ) (at : ℕ) → length xs ≤ at
     → later at (run h (drop at xs)) ≡ record { fate = Unfinished; read = at; state = h }
 unfolding run
 run-end h xs at p =
@@ -60,8 +60,8 @@ run-end h xs at p =
 
 -- after one octet more, which gives the fate f and the state g
 module _
-    (h : Held) (xs : List ℕ) (at : ℕ) (inside : at < length xs)
-    {f : Fate} {g : Held} (fate : f ≡ fateAt h (getD xs at 0)) (next : g ≡ after h (getD xs at 0)) where
+    (h : Assembling) (xs : List ℕ) (at : ℕ) (inside : at < length xs)
+    {f : Fate} {g : Assembling} (fate : f ≡ fateAt h (getD xs at 0)) (next : g ≡ afterOctet h (getD xs at 0)) where
   pub run-next : decided f ≡ false → later at (run h (drop at xs)) ≡ later (at + 1) (run g (drop (at + 1) xs))
   unfolding run
   run-next e = ap (λ ys. later at (run h ys)) (drop-next xs at inside) ∙ rw (← fate, ← next, e) (later-later at 1 _)

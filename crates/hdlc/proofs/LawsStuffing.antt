@@ -4,11 +4,11 @@ use mathlib.Core.Path.{_≡_, refl, sym, ap, _∙_}
 use mathlib.Core.List.{List, [], _∷_, _++_, append-assoc, append-nil}
 use Prim.Native.Nat.{ℕ}
 use lib.ListN.{length, length-append}
-use Rattle.frame.specs.Kinds.{isFlag, isEscape, isSkipped}
+use Rattle.frame.specs.Kind.{isFlag, isEscape, isSkipped}
 use Rattle.frame.proofs.LawsKinds.{Tests, by-octet}
 use Rattle.frame.specs.Frame.{sent, stuffed}
-use Rattle.hdlc.specs.Reading.{later}
-use Rattle.hdlc.specs.Wire.{kept, meant, pends, gathered, cutEscape, grown, verdictAt, call}
+use Rattle.hdlc.specs.Reader.{later}
+use Rattle.hdlc.specs.Wire.{kept, meant, pends, gathered, cutEscape, grown, pieceFateAt, call}
 use Rattle.hdlc.proofs.LawsReading.{later-zero, later-later}
 use Rattle.hdlc.proofs.LawsPieces.{gathered-append, cut-append}
 
@@ -23,7 +23,7 @@ escaped-passed : (p xs : List ℕ) (b : ℕ) → later 1 (later 1 (call ((p ++ (
 escaped-passed p xs b = later-later 1 1 _ ∙ ap (λ q. later 2 (call q xs)) (append-assoc p (0x7d ∷ []) (b ∷ []))
 
 plain-sent : (b : ℕ) → Tests b false false false → Sent b
-unfolding sent gathered cutEscape kept meant pends call verdictAt grown
+unfolding sent gathered cutEscape kept meant pends call pieceFateAt grown
 plain-sent b t =
     record {
       gives = simp (t .flag, t .escape, t .skipped);
@@ -32,7 +32,7 @@ plain-sent b t =
     }
 
 is-sent : (b : ℕ) → Sent b
-unfolding sent isFlag isEscape isSkipped gathered cutEscape kept meant pends call verdictAt grown
+unfolding sent isFlag isEscape isSkipped gathered cutEscape kept meant pends call pieceFateAt grown
 is-sent =
     by-octet Sent
     (record { gives = refl; whole = refl; passed = λ p xs. escaped-passed p xs 0x5e })

@@ -9,10 +9,10 @@ use lib.Dec.{ltb}
 use lib.ListN.{length}
 use Rattle.octets.proofs.LawsTests.{by-test}
 use Rattle.hdlc.specs.declared.reader.Reader.{Reader}
-use Rattle.hdlc.specs.Reading.{decided, mostGathered, fresh, Held, held, after, run}
+use Rattle.hdlc.specs.Reader.{decided, maxGathered, fresh, Assembling, assembling, afterOctet, run}
 use Rattle.hdlc.specs.Rules.{Rules, rules}
-use Rattle.hdlc.specs.Wire.{gathered, verdictAt, grown, call}
-use Rattle.hdlc.specs.States.{readerAfter, holding, openPiece, closed}
+use Rattle.hdlc.specs.Wire.{gathered, pieceFateAt, grown, call}
+use Rattle.hdlc.specs.States.{readerAfter, holding, openPiece, closedForm}
 use Rattle.hdlc.proofs.LawsStates.{after-undecided, after-decided}
 use Rattle.hdlc.proofs.ClosedForm.{open-holds, closed-form}
 
@@ -21,7 +21,7 @@ use Rattle.hdlc.proofs.ClosedForm.{open-holds, closed-form}
 pub rules-told : (r : Reader) → rules r ≡ true → Rules r
 unfolding rules
 rules-told r =
-    by-test (ltb mostGathered (r .count)) (λ t. simp t (λ e. absurd (false≢true e)))
+    by-test (ltb maxGathered (r .count)) (λ t. simp t (λ e. absurd (false≢true e)))
     (λ t. simp t
     (by-test (r .discarding)
     (λ d. simp d
@@ -32,7 +32,7 @@ rules-told r =
 pub rules-hold : (r : Reader) → Rules r → rules r ≡ true
 unfolding rules
 rules-hold r keeps =
-    simp (le-ltb mostGathered (r .count) (keeps .count))
+    simp (le-ltb maxGathered (r .count) (keeps .count))
     (by-test (r .discarding) (λ d. simp (d, keeps .discard d .1, eq-eqb _ _ (keeps .discard d .0))) (λ d. simp d))
 
 pub fresh-rules : Rules fresh
@@ -42,18 +42,18 @@ fresh-rules = record { count = omega arith; discard = λ d. absurd (false≢true
 
 reader-after : (p : List ℕ) → rules (readerAfter p) ≡ true
 unfolding readerAfter rules
-reader-after p = by-test (ltb mostGathered (length (gathered p))) (λ t. simp t) (λ t. simp t)
+reader-after p = by-test (ltb maxGathered (length (gathered p))) (λ t. simp t) (λ t. simp t)
 
-pub after-rules : (h : Held) (b : ℕ) → mostGathered ≤ length (h .assembly) → rules (h .reader) ≡ true → rules (after h b .reader) ≡ true
+pub after-rules : (h : Assembling) (b : ℕ) → maxGathered ≤ length (h .assembly) → rules (h .reader) ≡ true → rules (afterOctet h b .reader) ≡ true
 unfolding holding rules
 after-rules h b room e =
     let p = openPiece (h .reader) (h .assembly) in
-    ap (λ z. rules (after z b .reader)) (open-holds (h .reader) (h .assembly) (rules-told (h .reader) e) room)
-    ∙ by-test (decided (verdictAt p b)) (λ t. ap (λ z. rules (z .reader)) (after-decided p (h .assembly) b t))
+    ap (λ z. rules (afterOctet z b .reader)) (open-holds (h .reader) (h .assembly) (rules-told (h .reader) e) room)
+    ∙ by-test (decided (pieceFateAt p b)) (λ t. ap (λ z. rules (z .reader)) (after-decided p (h .assembly) b t))
     (λ t. ap (λ z. rules (z .reader)) (after-undecided p (h .assembly) b room t) ∙ reader-after (grown p b))
 
-pub run-rules : (r : Reader) (a xs : List ℕ) → Rules r → mostGathered ≤ length a → rules (run (held r a) xs .state .reader) ≡ true
-unfolding closed rules
+pub run-rules : (r : Reader) (a xs : List ℕ) → Rules r → maxGathered ≤ length a → rules (run (assembling r a) xs .state .reader) ≡ true
+unfolding closedForm rules
 run-rules r a xs keeps room =
     let c = call (openPiece r a) xs in
     ap (λ o. rules (o .state .reader)) (closed-form r a xs keeps room)

@@ -12,85 +12,85 @@ use Rattle.octets.specs.Octets.{Octets}
 use Rattle.octets.specs.LittleEndian.{leOctets}
 use Rattle.octets.proofs.LawsTests.{by-test}
 use Rattle.frame.specs.Fcs.{fcs}
-use Rattle.frame.specs.Kinds.{isFlag}
+use Rattle.frame.specs.Kind.{isFlag}
 use Rattle.frame.specs.Frame.{Body, checked, frame}
 use Rattle.hdlc.specs.declared.reader.Reader.{Reader}
-use Rattle.hdlc.specs.Reading.{decided, headed, mostGathered, fresh, Held, held, after, flagFate, fateAt, Outcome, outcome, later, run}
-use Rattle.hdlc.specs.Wire.{Verdict, told}
+use Rattle.hdlc.specs.Reader.{decided, headed, maxGathered, fresh, Assembling, assembling, afterOctet, flagFate, fateAt, Outcome, outcome, later, run}
+use Rattle.hdlc.specs.Wire.{Fated, fated}
 use Rattle.hdlc.specs.Histories.{callsTell, callsLeave, offers, offered}
 use Rattle.hdlc.proofs.LawsFates.{headed-decided, told-headed}
 use Rattle.hdlc.proofs.RoundTrip.{round-trip}
 
 -- what 7E and a body's frame give
 pub record Resynchronized (r : Reader) (a body : List ℕ) : Type 0 where
-  pub tells : callsTell (held r a) (offered (held r a) (0x7e ∷ frame body)) ≡ told (flagFate (held r a)) a ++ told (headed body) body
-  pub leaves : callsLeave (held r a) (offered (held r a) (0x7e ∷ frame body)) ≡ held fresh (checked body ++ drop (length body + 2) a)
+  pub tells : callsTell (assembling r a) (offered (assembling r a) (0x7e ∷ frame body)) ≡ fated (flagFate (assembling r a)) a ++ fated (headed body) body
+  pub leaves : callsLeave (assembling r a) (offered (assembling r a) (0x7e ∷ frame body)) ≡ assembling fresh (checked body ++ drop (length body + 2) a)
 
 -- ---- calls by their outcomes
 
 -- what calls tell, and what they leave
-record Calls (h : Held) (xss : List (List ℕ)) (vs : List Verdict) (h′ : Held) : Type 0 where
+record Calls (h : Assembling) (xss : List (List ℕ)) (vs : List Fated) (h′ : Assembling) : Type 0 where
   tells : callsTell h xss ≡ vs
   leaves : callsLeave h xss ≡ h′
 
 -- what a call with a fate left unread is offered again
-offers-on : {h h′ : Held} {o : Outcome} {vs : List Verdict} (n : ℕ) (xs : List ℕ) → run h xs ≡ o → decided (o .fate) ≡ true
-    → Calls (o .state) (offers n (o .state) (drop (o .read) xs)) vs h′ → Calls h (offers (suc n) h xs) (told (o .fate) (o .state .assembly) ++ vs) h′
+offers-on : {h h′ : Assembling} {o : Outcome} {vs : List Fated} (n : ℕ) (xs : List ℕ) → run h xs ≡ o → decided (o .fate) ≡ true
+    → Calls (o .state) (offers n (o .state) (drop (o .read) xs)) vs h′ → Calls h (offers (suc n) h xs) (fated (o .fate) (o .state .assembly) ++ vs) h′
 unfolding callsTell callsLeave offers
 offers-on {o = o} n xs is t rest =
     let again : Outcome → List (List ℕ) = λ z. cond (decided (z .fate)) (offers n (z .state) (drop (z .read) xs)) [] in
     let go-on : again o ≡ offers n (o .state) (drop (o .read) xs) = simp t in
     record {
       tells =
-          ap (λ z. told (z .fate) (z .state .assembly) ++ callsTell (z .state) (again z)) is
-          ∙ ap (λ l. told (o .fate) (o .state .assembly) ++ l) (ap (callsTell (o .state)) go-on ∙ rest .tells);
+          ap (λ z. fated (z .fate) (z .state .assembly) ++ callsTell (z .state) (again z)) is
+          ∙ ap (λ l. fated (o .fate) (o .state .assembly) ++ l) (ap (callsTell (o .state)) go-on ∙ rest .tells);
       leaves = ap (λ z. callsLeave (z .state) (again z)) is ∙ ap (callsLeave (o .state)) go-on ∙ rest .leaves;
     }
 
 -- no octets: nothing is told and nothing changes
-used-up : (n : ℕ) (h : Held) (xs : List ℕ) → xs ≡ [] → Calls h (offers (suc n) h xs) [] h
-unfolding callsTell callsLeave offers run told
+used-up : (n : ℕ) (h : Assembling) (xs : List ℕ) → xs ≡ [] → Calls h (offers (suc n) h xs) [] h
+unfolding callsTell callsLeave offers run fated
 used-up n h xs none = rw none (record { tells = refl; leaves = refl })
 
-told-as : {h h′ : Held} {xss : List (List ℕ)} {vs ws : List Verdict} → vs ≡ ws → Calls h xss vs h′ → Calls h xss ws h′
+told-as : {h h′ : Assembling} {xss : List (List ℕ)} {vs ws : List Fated} → vs ≡ ws → Calls h xss vs h′ → Calls h xss ws h′
 told-as e c = record { tells = c .tells ∙ e; leaves = c .leaves }
 
-module _ (r : Reader) (a body : List ℕ) (room : mostGathered ≤ length a) (size : Body body) (octets : Octets body) where
+module _ (r : Reader) (a body : List ℕ) (room : maxGathered ≤ length a) (size : Body body) (octets : Octets body) where
   -- the frame as a fresh reader reads it
   read-frame : Outcome
   read-frame = outcome (headed body) (length (frame body)) fresh (checked body ++ drop (length body + 2) a)
 
-  told-frame : told (headed body) (checked body ++ drop (length body + 2) a) ≡ told (headed body) body
+  told-frame : fated (headed body) (checked body ++ drop (length body + 2) a) ≡ fated (headed body) body
   unfolding checked
-  told-frame = ap (told (headed body)) (append-assoc body (leOctets 2 (fcs body)) (drop (length body + 2) a)) ∙ told-headed body _
+  told-frame = ap (fated (headed body)) (append-assoc body (leOctets 2 (fcs body)) (drop (length body + 2) a)) ∙ told-headed body _
 
   -- what was open has a fate: the flag ends a call
-  decided-first : decided (flagFate (held r a)) ≡ true → run (held r a) (0x7e ∷ frame body) ≡ outcome (flagFate (held r a)) 1 fresh a
-  unfolding run fateAt after isFlag
+  decided-first : decided (flagFate (assembling r a)) ≡ true → run (assembling r a) (0x7e ∷ frame body) ≡ outcome (flagFate (assembling r a)) 1 fresh a
+  unfolding run fateAt afterOctet isFlag
   decided-first t = simp t
 
   -- it has none: the call goes on
-  undecided-first : decided (flagFate (held r a)) ≡ false → run (held r a) (0x7e ∷ frame body) ≡ later 1 read-frame
-  unfolding run fateAt after isFlag read-frame
+  undecided-first : decided (flagFate (assembling r a)) ≡ false → run (assembling r a) (0x7e ∷ frame body) ≡ later 1 read-frame
+  unfolding run fateAt afterOctet isFlag read-frame
   undecided-first t = simp t (ap (later 1) (round-trip body size octets a room))
 
-  untold : decided (flagFate (held r a)) ≡ false → told (flagFate (held r a)) a ≡ []
-  unfolding told
+  untold : decided (flagFate (assembling r a)) ≡ false → fated (flagFate (assembling r a)) a ≡ []
+  unfolding fated
   untold t = simp t
 
   -- a frame is read by one call, and the next has nothing to read
-  frame-calls : (n : ℕ) → Calls (held fresh a) (offers (suc (suc n)) (held fresh a) (frame body)) (told (headed body) body) (read-frame .state)
+  frame-calls : (n : ℕ) → Calls (assembling fresh a) (offers (suc (suc n)) (assembling fresh a) (frame body)) (fated (headed body) body) (read-frame .state)
   unfolding read-frame
   frame-calls n =
       told-as (append-nil _ ∙ told-frame)
       (offers-on (suc n) (frame body) (round-trip body size octets a room) (headed-decided body) (used-up n _ _ (drop-length (frame body))))
 
-  calls : Calls (held r a) (offered (held r a) (0x7e ∷ frame body)) (told (flagFate (held r a)) a ++ told (headed body) body) (read-frame .state)
-  unfolding offered frame told read-frame
+  calls : Calls (assembling r a) (offered (assembling r a) (0x7e ∷ frame body)) (fated (flagFate (assembling r a)) a ++ fated (headed body) body) (read-frame .state)
+  unfolding offered frame fated read-frame
   calls =
-      by-test (decided (flagFate (held r a))) (λ t. offers-on _ (0x7e ∷ frame body) (decided-first t) t (frame-calls _))
+      by-test (decided (flagFate (assembling r a))) (λ t. offers-on _ (0x7e ∷ frame body) (decided-first t) t (frame-calls _))
       (λ t.
-      told-as (append-nil _ ∙ told-frame ∙ sym (ap (λ l. l ++ told (headed body) body) (untold t)))
+      told-as (append-nil _ ∙ told-frame ∙ sym (ap (λ l. l ++ fated (headed body) body) (untold t)))
       (offers-on _ (0x7e ∷ frame body) (undecided-first t) (headed-decided body)
       (used-up _ _ _ (drop-of-length-le (0x7e ∷ frame body) {i = 1 + length (frame body)} (omega arith)))))
 

@@ -13,13 +13,13 @@ use Rattle.octets.specs.LittleEndian.{le, leAt, leOctets}
 use Rattle.octets.proofs.LawsLittleEndian.{length-le}
 use Rattle.octets.proofs.LittleEndianRoundTrip.{number-back}
 use Rattle.frame.specs.Fcs.{fcs}
-use Rattle.frame.specs.Kinds.{isFlag}
+use Rattle.frame.specs.Kind.{isFlag}
 use Rattle.frame.specs.Frame.{Body, stuffed, checked, frame}
 use Rattle.frame.proofs.LawsFcs.{fcs-bound}
 use Rattle.frame.proofs.LawsFrame.{checked-length}
-use Rattle.hdlc.specs.Reading.{later, bodyOf, checkOf, judged, headed, mostGathered, fresh, held, outcome, run}
-use Rattle.hdlc.specs.Wire.{kept, gathered, cutEscape, verdict, grown, finished, unfinished, told, verdicts, verdictAt, call, callReads}
-use Rattle.hdlc.specs.States.{readerAfter, over, holding, closed}
+use Rattle.hdlc.specs.Reader.{later, bodyOf, checkOf, frameFate, headed, maxGathered, fresh, assembling, outcome, run}
+use Rattle.hdlc.specs.Wire.{kept, gathered, cutEscape, pieceFate, grown, finished, unfinished, fated, fatesOf, pieceFateAt, call, callReads}
+use Rattle.hdlc.specs.States.{readerAfter, over, holding, closedForm}
 use Rattle.hdlc.proofs.LawsFates.{headed-decided, told-headed}
 use Rattle.hdlc.proofs.LawsStuffing.{stuffed-gives, stuffed-passed}
 use Rattle.hdlc.proofs.LawsStates.{over-few}
@@ -28,7 +28,7 @@ use Rattle.hdlc.proofs.LawsCalls.{reads}
 
 -- the first flag ends nothing
 first-flag : (xs : List ℕ) → call [] (0x7e ∷ xs) ≡ later 1 (call [] xs)
-unfolding call verdictAt verdict grown isFlag gathered cutEscape kept
+unfolding call pieceFateAt pieceFate grown isFlag gathered cutEscape kept
 first-flag xs = refl
 
 module _ (body : List ℕ) (size : Body body) (octets : Octets body) where
@@ -43,8 +43,8 @@ module _ (body : List ℕ) (size : Body body) (octets : Octets body) where
       ∙ ap le (take-all 2 (leOctets 2 (fcs body)) (omega (arith, length-le 2 (fcs body))))
       ∙ number-back 2 (fcs body) (fcs-bound body octets)
 
-  checked-judged : judged (checked body) ≡ headed body
-  unfolding judged
+  checked-judged : frameFate (checked body) ≡ headed body
+  unfolding frameFate
   checked-judged =
       simp (
         le-ltb (length (checked body)) 4 (omega (arith, checked-length body, size .0)),
@@ -52,20 +52,20 @@ module _ (body : List ℕ) (size : Body body) (octets : Octets body) where
       )
       (ap headed checked-body)
 
-  frame-verdict : verdict (stuffed (checked body)) ≡ headed body
-  unfolding verdict
+  frame-verdict : pieceFate (stuffed (checked body)) ≡ headed body
+  unfolding pieceFate
   frame-verdict =
       let s = stuffed-gives (checked body) in
       simp (
         s .0,
         s .1,
-        le-ltb mostGathered (length (checked body)) (omega (arith, checked-length body, size .1)),
+        le-ltb maxGathered (length (checked body)) (omega (arith, checked-length body, size .1)),
         ne-eqb (length (checked body)) 0 (λ e. omega (arith, checked-length body)),
       )
       checked-judged
 
   last-flag : call (stuffed (checked body)) (0x7e ∷ []) ≡ record { fate = headed body; read = 1; state = stuffed (checked body) }
-  unfolding call verdictAt isFlag
+  unfolding call pieceFateAt isFlag
   last-flag = rw (frame-verdict, headed-decided body)
 
   frame-call : call [] (frame body) ≡ record { fate = headed body; read = length (frame body); state = stuffed (checked body) }
@@ -84,15 +84,15 @@ module _ (body : List ℕ) (size : Body body) (octets : Octets body) where
       ∙ ap (λ n. checked body ++ drop n a) (checked-length body)
 
   closed-frame : (a : List ℕ)
-      → closed (record { fate = headed body; read = length (frame body); state = stuffed (checked body) }) a
+      → closedForm (record { fate = headed body; read = length (frame body); state = stuffed (checked body) }) a
       ≡ outcome (headed body) (length (frame body)) fresh (checked body ++ drop (length body + 2) a)
-  unfolding closed
+  unfolding closedForm
   closed-frame a = rw (headed-decided body, filled a)
 
-  pub round-trip : (a : List ℕ) → mostGathered ≤ length a
-      → run (held fresh a) (frame body) ≡ outcome (headed body) (length (frame body)) fresh (checked body ++ drop (length body + 2) a)
+  pub round-trip : (a : List ℕ) → maxGathered ≤ length a
+      → run (assembling fresh a) (frame body) ≡ outcome (headed body) (length (frame body)) fresh (checked body ++ drop (length body + 2) a)
   unfolding holding readerAfter over gathered cutEscape kept
-  round-trip a room = call-closed (frame body) [] a room ∙ ap (λ c. closed c a) frame-call ∙ closed-frame a
+  round-trip a room = call-closed (frame body) [] a room ∙ ap (λ c. closedForm c a) frame-call ∙ closed-frame a
 
   -- ---- the frame, told by its octets alone
 
@@ -100,7 +100,7 @@ module _ (body : List ℕ) (size : Body body) (octets : Octets body) where
   unfolding callReads
   frame-reads = rw (frame-call, take-length)
 
-  pub frame-told : verdicts (finished [] (frame body)) ≡ told (headed body) body
+  pub frame-told : fatesOf (finished [] (frame body)) ≡ fated (headed body) body
   unfolding checked
   frame-told = (rw (frame-reads, frame-call, stuffed-gives (checked body) .0) at (reads (frame body) [] .tells)) ∙ told-headed body _
 

@@ -1,4 +1,4 @@
-pub mod Reading
+pub mod Reader
 pub mod Rules
 pub mod Wire
 pub mod States

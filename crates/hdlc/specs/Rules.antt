@@ -4,15 +4,15 @@ use mathlib.Core.Path.{_≡_}
 use Prim.Native.Nat.{_≤_}
 use lib.Dec.{ltb, eqb}
 use Rattle.hdlc.specs.declared.reader.Reader.{Reader}
-use Rattle.hdlc.specs.Reading.{mostGathered}
+use Rattle.hdlc.specs.Reader.{maxGathered}
 
 -- 01's sentence
 pub record Rules (r : Reader) : Type 0 where
-  pub count : r .count ≤ mostGathered
-  pub discard : r .discarding ≡ true → (r .count ≡ mostGathered) × (r .escaped ≡ false)
+  pub count : r .count ≤ maxGathered
+  pub discard : r .discarding ≡ true → (r .count ≡ maxGathered) × (r .escaped ≡ false)
 
 -- the test that decides it (proofs/ReaderRules.antt)
 unfoldable pub rules : Reader → Bool
 rules r =
-    cond (ltb mostGathered (r .count)) false
-    (cond (r .discarding) (cond (r .escaped) false (eqb (r .count) mostGathered)) true)
+    cond (ltb maxGathered (r .count)) false
+    (cond (r .discarding) (cond (r .escaped) false (eqb (r .count) maxGathered)) true)

@@ -6,27 +6,27 @@ use lib.Dec.{ltb}
 use lib.ListN.{length, take, drop}
 use Rattle.frame.specs.Frame.{stuffed}
 use Rattle.hdlc.specs.declared.reader.Reader.{Reader}
-use Rattle.hdlc.specs.Reading.{mostGathered, decided, gathering, overlong, fresh, Held, held, Outcome, outcome}
+use Rattle.hdlc.specs.Reader.{maxGathered, decided, gathering, overlong, fresh, Assembling, assembling, Outcome, outcome}
 use Rattle.hdlc.specs.Wire.{gathered, cutEscape, Call}
 
 unfoldable pub readerAfter : List ℕ → Reader
-readerAfter p = cond (ltb mostGathered (length (gathered p))) overlong (gathering (length (gathered p)) (cutEscape p))
+readerAfter p = cond (ltb maxGathered (length (gathered p))) overlong (gathering (length (gathered p)) (cutEscape p))
 
 -- "Gathered octets fill the assembly buffer from its front; its other octets .. keep what they held"
 unfoldable pub over : List ℕ → List ℕ → List ℕ
-over g a = take mostGathered g ++ drop (length (take mostGathered g)) a
+over g a = take maxGathered g ++ drop (length (take maxGathered g)) a
 
 -- the reader after a piece, over the assembly buffer that it was lent
-unfoldable pub holding : List ℕ → List ℕ → Held
-holding p a = held (readerAfter p) (over (gathered p) a)
+unfoldable pub holding : List ℕ → List ℕ → Assembling
+holding p a = assembling (readerAfter p) (over (gathered p) a)
 
 -- a piece after which a reader and its buffer are as they are: what is open in them
 unfoldable pub openPiece : Reader → List ℕ → List ℕ
 openPiece r a =
-    cond (r .discarding) (stuffed (take mostGathered a ++ (0 ∷ [])))
+    cond (r .discarding) (stuffed (take maxGathered a ++ (0 ∷ [])))
     (stuffed (take (r .count) a) ++ cond (r .escaped) (0x7d ∷ []) [])
 
 -- ---- a call in closed form, over the assembly buffer that it was lent
 
-unfoldable pub closed : Call → List ℕ → Outcome
-closed c a = outcome (c .fate) (c .read) (cond (decided (c .fate)) fresh (readerAfter (c .state))) (over (gathered (c .state)) a)
+unfoldable pub closedForm : Call → List ℕ → Outcome
+closedForm c a = outcome (c .fate) (c .read) (cond (decided (c .fate)) fresh (readerAfter (c .state))) (over (gathered (c .state)) a)

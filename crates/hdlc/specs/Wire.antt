@@ -6,10 +6,10 @@ use lib.Dec.{ltb, eqb}
 use lib.ListN.{length, take}
 use lib.Bits.{bitXor}
 use Rattle.octets.specs.Runs.{each, emitted}
-use Rattle.frame.specs.Kinds.{isFlag, isEscape, isSkipped}
+use Rattle.frame.specs.Kind.{isFlag, isEscape, isSkipped}
 use Rattle.hdlc.specs.declared.reader.Fate.{Fate}
 use Rattle.hdlc.specs.declared.reader.Fate.the-variants.{Unfinished, Checked, Short, WrongCheck, TooLong, CutEscape, BadHeader}
-use Rattle.hdlc.specs.Reading.{mostGathered, number, decided, judged, Read, later}
+use Rattle.hdlc.specs.Reader.{maxGathered, fateNumber, decided, frameFate, Read, later}
 
 -- ---- one piece: the octets between two flags
 
@@ -34,10 +34,10 @@ unfoldable pub cutEscape : List ℕ → Bool
 cutEscape p = foldl pends false (kept p)
 
 -- "Fates are tried in the order 4, 5, 2, 3, 6"; an empty piece has none
-unfoldable pub verdict : List ℕ → Fate
-verdict p =
-    cond (ltb mostGathered (length (gathered p))) TooLong
-    (cond (cutEscape p) CutEscape (cond (eqb (length (gathered p)) 0) Unfinished (judged (gathered p))))
+unfoldable pub pieceFate : List ℕ → Fate
+pieceFate p =
+    cond (ltb maxGathered (length (gathered p))) TooLong
+    (cond (cutEscape p) CutEscape (cond (eqb (length (gathered p)) 0) Unfinished (frameFate (gathered p))))
 
 -- ---- the wire: "Cut this at the flags; what follows the last is unfinished"
 
@@ -58,7 +58,7 @@ unfinished p xs = foldl grown p xs
 -- ---- the verdicts of pieces
 
 -- 01's number of a fate and, of a checked frame, its body; the gathered octets stand first in the list
-pub record Verdict : Type 0 where
+pub record Fated : Type 0 where
   pub number : ℕ
   pub body : List ℕ
 
@@ -72,11 +72,11 @@ bodyIn CutEscape xs = []
 bodyIn BadHeader xs = []
 
 -- none where there is no fate
-unfoldable pub told : Fate → List ℕ → List Verdict
-told f xs = cond (decided f) (record { number = number f; body = bodyIn f xs } ∷ []) []
+unfoldable pub fated : Fate → List ℕ → List Fated
+fated f xs = cond (decided f) (record { number = fateNumber f; body = bodyIn f xs } ∷ []) []
 
-unfoldable pub verdicts : List (List ℕ) → List Verdict
-verdicts ps = each (λ p. told (verdict p) (gathered p)) ps
+unfoldable pub fatesOf : List (List ℕ) → List Fated
+fatesOf ps = each (λ p. fated (pieceFate p) (gathered p)) ps
 
 -- ---- a call reads "its input to the first flag with a fate, that flag included, else all"
 
@@ -85,12 +85,12 @@ abbrev pub Call : Type 0
 Call = Read (List ℕ)
 
 -- the fate that an octet gives to the piece before it
-unfoldable pub verdictAt : List ℕ → ℕ → Fate
-verdictAt p b = cond (isFlag b) (verdict p) Unfinished
+unfoldable pub pieceFateAt : List ℕ → ℕ → Fate
+pieceFateAt p b = cond (isFlag b) (pieceFate p) Unfinished
 
 unfoldable pub call : List ℕ → List ℕ → Call
 call p [] = record { fate = Unfinished; read = 0; state = p }
-call p (b ∷ bs) = cond (decided (verdictAt p b)) (record { fate = verdictAt p b; read = 1; state = p }) (later 1 (call (grown p b) bs))
+call p (b ∷ bs) = cond (decided (pieceFateAt p b)) (record { fate = pieceFateAt p b; read = 1; state = p }) (later 1 (call (grown p b) bs))
 
 -- the octets that it read
 unfoldable pub callReads : List ℕ → List ℕ → List ℕ

@@ -1,5 +1,5 @@
 // The frame reader. Its state goes in and out by value; the octets that it gathers stand in a lent assembly buffer.
-use frame::Kind;
+use frame::OctetKind;
 use frame::fcs16;
 use frame::kind_of;
 use octets::read_le;
@@ -7,7 +7,7 @@ ghost use mathlib.Core.Bool.{Bool, true};
 ghost use mathlib.Core.Path.{_≡_};
 ghost use Prim.Native.Nat.{_≤_};
 ghost use lib.ListN.{length};
-ghost use Rattle.hdlc.specs.Reading.{mostGathered, gathering, fresh, held, outcome, judged, flagFate, gather, content, after, fateAt, decided, run};
+ghost use Rattle.hdlc.specs.Reader.{maxGathered, gathering, fresh, assembling, outcome, frameFate, flagFate, gather, afterContent, afterOctet, fateAt, decided, run};
 ghost use Rattle.hdlc.specs.Rules.{rules};
 
 // What became of a frame, with 01's number of each fate.
@@ -52,9 +52,9 @@ struct Step {
 
 impl Reader {
     // The most octets of a body.
-    pub const MOST_BODY: usize = 1300;
+    pub const MAX_BODY: usize = 1300;
     // The most octets that are gathered: a body and its check.
-    pub const MOST_GATHERED: usize = Reader::MOST_BODY + 2;
+    pub const MAX_GATHERED: usize = Reader::MAX_BODY + 2;
 
     // A reader that stands as if a flag had just passed.
     pub fn fresh() -> Reader
@@ -78,14 +78,14 @@ impl Reader {
     pub fn keeps_rules(self) -> bool
         ensures { λ r. ⌜ r ≡ rules self ⌝ }
     {
-        if Reader::MOST_GATHERED < self.count {
+        if Reader::MAX_GATHERED < self.count {
             return false;
         }
         if self.discarding {
             if self.escaped {
                 return false;
             }
-            return self.count == Reader::MOST_GATHERED;
+            return self.count == Reader::MAX_GATHERED;
         }
         true
     }
@@ -93,7 +93,7 @@ impl Reader {
 
 // The fate of gathered octets that are not too many and not cut in an escape.
 fn judge(gathered: &[u8]) -> Fate
-    ensures { λ r. ⌜ r ≡ judged (now (gathered .entry)) ⌝ }
+    ensures { λ r. ⌜ r ≡ frameFate (now (gathered .entry)) ⌝ }
 {
     let count = gathered.len();
     if count < 4 {
@@ -112,7 +112,7 @@ fn judge(gathered: &[u8]) -> Fate
 // The fate that a flag gives, `Unfinished` where no frame ends.
 fn flag_fate(reader: Reader, assembly: &[u8]) -> Fate
     requires { ⌜ reader .count ≤ length (now assembly) ⌝ }
-    ensures { λ r. ⌜ r ≡ flagFate (held reader (now (assembly .entry))) ⌝ }
+    ensures { λ r. ⌜ r ≡ flagFate (assembling reader (now (assembly .entry))) ⌝ }
 {
     if reader.discarding {
         return Fate::TooLong;
@@ -129,16 +129,16 @@ fn flag_fate(reader: Reader, assembly: &[u8]) -> Fate
 
 // One octet more is gathered; one too many starts the discard.
 fn gather_octet(reader: Reader, octet: u8, assembly: &mut [u8]) -> Reader
-    requires { ⌜ mostGathered ≤ length (now assembly) ⌝ }
-    ensures { λ r. ⌜ held r (now (assembly .exit)) ≡ gather (held reader (now (assembly .entry))) octet ⌝ }
+    requires { ⌜ maxGathered ≤ length (now assembly) ⌝ }
+    ensures { λ r. ⌜ assembling r (now (assembly .exit)) ≡ gather (assembling reader (now (assembly .entry))) octet ⌝ }
 {
     let count = reader.count;
-    if count < Reader::MOST_GATHERED {
+    if count < Reader::MAX_GATHERED {
         assembly[count] = octet;
         return Reader::gathering(count + 1, false);
     }
     Reader {
-        count: Reader::MOST_GATHERED,
+        count: Reader::MAX_GATHERED,
         escaped: false,
         discarding: true,
     }
@@ -146,8 +146,8 @@ fn gather_octet(reader: Reader, octet: u8, assembly: &mut [u8]) -> Reader
 
 // An octet of a frame's content: neither a flag nor skipped.
 fn take_content(reader: Reader, escape: bool, octet: u8, assembly: &mut [u8]) -> Reader
-    requires { ⌜ mostGathered ≤ length (now assembly) ⌝ }
-    ensures { λ r. ⌜ held r (now (assembly .exit)) ≡ content (held reader (now (assembly .entry))) escape octet ⌝ }
+    requires { ⌜ maxGathered ≤ length (now assembly) ⌝ }
+    ensures { λ r. ⌜ assembling r (now (assembly .exit)) ≡ afterContent (assembling reader (now (assembly .entry))) escape octet ⌝ }
 {
     if reader.discarding {
         return reader;
@@ -163,34 +163,34 @@ fn take_content(reader: Reader, escape: bool, octet: u8, assembly: &mut [u8]) ->
 
 // One octet: the fate that it decides, and the reader after it.
 fn read_octet(reader: Reader, octet: u8, assembly: &mut [u8]) -> Step
-    requires { ⌜ (reader .count ≤ mostGathered) × (mostGathered ≤ length (now assembly)) ⌝ }
+    requires { ⌜ (reader .count ≤ maxGathered) × (maxGathered ≤ length (now assembly)) ⌝ }
     ensures { λ s.
-        ⌜ (s .fate ≡ fateAt (held reader (now (assembly .entry))) octet)
-        × (held (s .reader) (now (assembly .exit)) ≡ after (held reader (now (assembly .entry))) octet) ⌝ }
+        ⌜ (s .fate ≡ fateAt (assembling reader (now (assembly .entry))) octet)
+        × (assembling (s .reader) (now (assembly .exit)) ≡ afterOctet (assembling reader (now (assembly .entry))) octet) ⌝ }
 {
     let kind = kind_of(octet);
     match kind {
-        Kind::Flag => {
+        OctetKind::Flag => {
             let fate = flag_fate(reader, &assembly[..]);
             return Step {
                 fate,
                 reader: Reader::fresh(),
             };
         }
-        Kind::Skipped => {
+        OctetKind::Skipped => {
             return Step {
                 fate: Fate::Unfinished,
                 reader,
             };
         }
-        Kind::Escape => {
+        OctetKind::Escape => {
             let next = take_content(reader, true, octet, assembly);
             return Step {
                 fate: Fate::Unfinished,
                 reader: next,
             };
         }
-        Kind::Plain => {
+        OctetKind::Plain => {
             let next = take_content(reader, false, octet, assembly);
             return Step {
                 fate: Fate::Unfinished,
@@ -212,10 +212,10 @@ fn decides(fate: Fate) -> bool
 
 // Reads the input until the first frame has its fate, or the input ends.
 pub fn read_frame(reader: Reader, input: &[u8], assembly: &mut [u8]) -> Reading
-    requires { ⌜ (rules reader ≡ true) × (mostGathered ≤ length (now assembly)) ⌝ }
+    requires { ⌜ (rules reader ≡ true) × (maxGathered ≤ length (now assembly)) ⌝ }
     ensures { λ r.
         ⌜ outcome (r .fate) (r .read) (r .reader) (now (assembly .exit))
-        ≡ run (held reader (now (assembly .entry))) (now (input .entry)) ⌝ }
+        ≡ run (assembling reader (now (assembly .entry))) (now (input .entry)) ⌝ }
 {
     let mut reader = reader;
     let mut at: usize = 0;

@@ -7,7 +7,7 @@ use lib.ListN.{length, take}
 use Rattle.octets.specs.Finding.{before}
 use Rattle.octets.specs.LittleEndian.{le}
 use Rattle.octets.proofs.LawsTests.{chosen}
-use Rattle.property.specs.Numbers.{numberAt}
+use Rattle.property.specs.Number.{numberAt}
 use Rattle.property.specs.declared.row.Command.{Command}
 use Rattle.property.specs.declared.row.Command.the-variants.{Get, Set, Insert, Remove}
 use Rattle.property.specs.declared.row.Kind.{Kind}
@@ -18,8 +18,8 @@ use Rattle.device.specs.declared.view.Effect.the-variants.{None}
 use Rattle.method.specs.declared.outcome.Outcome.{Outcome}
 use Rattle.method.specs.declared.outcome.Outcome.the-variants.{Done, Refused}
 use Rattle.method.specs.declared.outcome.Performed.{Performed}
-use Rattle.method.specs.declared.set.Value.{Value}
-use Rattle.method.specs.declared.set.Value.the-variants.{Good, Bad}
+use Rattle.method.specs.declared.set.PayloadNumber.{PayloadNumber}
+use Rattle.method.specs.declared.set.PayloadNumber.the-variants.{Good, Bad}
 use Rattle.method.specs.Perform.{getWith, valueIn, conflicts, numberTo, setNumber, setName, setPorts, setKind, insertPort, portsHeld, removePort, perform}
 
 abbrev pub Quiet : Outcome → Type 0
@@ -37,7 +37,7 @@ still-refused : (l : Link) (s : ℕ) → Still (record { outcome = Refused s; li
 unfolding Still
 still-refused l s = tt
 
-number-still : (l : Link) (slot : ℕ) (x : Value) → Still (numberTo l slot x)
+number-still : (l : Link) (slot : ℕ) (x : PayloadNumber) → Still (numberTo l slot x)
 unfolding numberTo
 number-still l slot (Bad s) = still-refused l s
 number-still l slot (Good x) = chosen Still (conflicts (l .numbers) slot x) (λ _. still-refused l 4) (λ _. still-done _)

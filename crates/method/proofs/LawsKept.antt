@@ -14,7 +14,7 @@ use Rattle.octets.specs.Padding.{pad}
 use Rattle.octets.proofs.LawsPadding.{pad-length, pad-front, pad-zeros}
 use Rattle.octets.proofs.LawsScanning.{all-at, all-of}
 use Rattle.octets.proofs.LawsTests.{by-test, chosen, and-l, and-r, impossible}
-use Rattle.property.specs.Numbers.{numberAt, powerState, within}
+use Rattle.property.specs.Number.{numberAt, powerState, within}
 use Rattle.property.specs.declared.number.Number.{Number as Numeric}
 use Rattle.property.specs.declared.row.Command.{Command}
 use Rattle.property.specs.declared.row.Command.the-variants.{Get, Set, Insert, Remove}
@@ -30,8 +30,8 @@ use Rattle.device.proofs.StateRules.{LinkFacts, link-told, nine-numbers, ports-
 use Rattle.method.specs.declared.outcome.Outcome.{Outcome}
 use Rattle.method.specs.declared.outcome.Outcome.the-variants.{Done, Refused}
 use Rattle.method.specs.declared.outcome.Performed.{Performed}
-use Rattle.method.specs.declared.set.Value.{Value}
-use Rattle.method.specs.declared.set.Value.the-variants.{Good, Bad}
+use Rattle.method.specs.declared.set.PayloadNumber.{PayloadNumber}
+use Rattle.method.specs.declared.set.PayloadNumber.the-variants.{Good, Bad}
 use Rattle.method.specs.Perform.{done, refused, withNumbers, withName, withPorts, getWith, valueIn, conflicts, numberTo, setNumber, powerTo, setPower, setName, setPorts, setKind, insertPort, without, removePort, perform}
 use Rattle.method.proofs.StackAndInterface.{conflict-test}
 use Rattle.method.proofs.LawsNumbers.{value-within}
@@ -185,7 +185,7 @@ module _ (l : Link) (t : linkRule l ≡ true) where
       rw (same, getD-set-same (l .numbers) slot v 0 (omega (arith, nine-numbers l t))) w)
       (λ e. rw (getD-set-other (l .numbers) slot k v 0 (eqb-false k slot e)) (all-at 9 (λ j. within (numberAt j) (getD (l .numbers) j 0)) (f .range) k low)))
 
-  number-kept : (slot : ℕ) (x : Value) (p : List ℕ) → slot < 9 → valueIn (numberAt slot) p ≡ x → Kept l (numberTo l slot x)
+  number-kept : (slot : ℕ) (x : PayloadNumber) (p : List ℕ) → slot < 9 → valueIn (numberAt slot) p ≡ x → Kept l (numberTo l slot x)
   unfolding numberTo
   number-kept slot (Bad s) p h e = kept-refused s (bad-small (numberAt slot) p s (outside-most (numberAt slot) (numbers-keep slot h)) e)
   number-kept slot (Good v) p h e =
@@ -204,7 +204,7 @@ module _ (l : Link) (t : linkRule l ≡ true) where
         small = tt;
       })
 
-  power-kept : (x : Value) (p : List ℕ) → valueIn powerState p ≡ x → Kept l (powerTo l x)
+  power-kept : (x : PayloadNumber) (p : List ℕ) → valueIn powerState p ≡ x → Kept l (powerTo l x)
   unfolding powerTo
   power-kept (Good x) p e = record { facts = f; same = refl; small = tt }
   power-kept (Bad s) p e = kept-refused s (bad-small powerState p s refl e)

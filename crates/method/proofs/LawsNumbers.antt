@@ -10,10 +10,10 @@ use lib.ListN.{length}
 use lib.Seq.{take-all}
 use Rattle.octets.specs.LittleEndian.{le, leAt}
 use Rattle.octets.proofs.LawsTests.{by-test, impossible}
-use Rattle.property.specs.Numbers.{within}
+use Rattle.property.specs.Number.{within}
 use Rattle.property.specs.declared.number.Number.{Number as Numeric}
 use Rattle.method.specs.Perform.{valueIn}
-use Rattle.method.specs.declared.set.Value.the-variants.{Good}
+use Rattle.method.specs.declared.set.PayloadNumber.the-variants.{Good}
 
 -- octets that are read whole
 pub le-whole : (p : List ℕ) (n : ℕ) → length p ≡ n → leAt p 0 n ≡ le p

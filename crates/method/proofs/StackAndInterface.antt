@@ -11,7 +11,7 @@ use lib.ListN.{length, getD, set}
 use lib.Seq.{getD-set-same, getD-set-other}
 use Rattle.octets.proofs.LawsScanning.{all-at}
 use Rattle.octets.proofs.LawsTests.{by-test}
-use Rattle.property.specs.Numbers.{bool, numbers, numberAt, interfaceUp, stackUp, within}
+use Rattle.property.specs.Number.{bool, numbers, numberAt, interfaceUp, stackUp, within}
 use Rattle.device.specs.Rules.{inRange, stackRule}
 use Rattle.method.specs.Perform.{conflicts}
 use Rattle.method.proofs.LawsNumbers.{within-most}

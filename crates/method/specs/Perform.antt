@@ -6,7 +6,7 @@ use lib.Dec.{eqb, ltb}
 use lib.ListN.{length, getD, take, drop, set}
 use Rattle.octets.specs.Finding.{before}
 use Rattle.octets.specs.LittleEndian.{le}
-use Rattle.property.specs.Numbers.{numberAt, powerState, interfaceUp, stackUp, within}
+use Rattle.property.specs.Number.{numberAt, powerState, interfaceUp, stackUp, within}
 use Rattle.property.specs.declared.number.Number.{Number as Numeric}
 use Rattle.property.specs.declared.row.Command.{Command}
 use Rattle.property.specs.declared.row.Command.the-variants.{Get, Set, Insert, Remove}
@@ -18,8 +18,8 @@ use Rattle.device.specs.declared.state.Link.{Link}
 use Rattle.device.specs.declared.view.Effect.the-variants.{None, Powered}
 use Rattle.method.specs.declared.outcome.Outcome.the-variants.{Done, Refused}
 use Rattle.method.specs.declared.outcome.Performed.{Performed}
-use Rattle.method.specs.declared.set.Value.{Value}
-use Rattle.method.specs.declared.set.Value.the-variants.{Good, Bad}
+use Rattle.method.specs.declared.set.PayloadNumber.{PayloadNumber}
+use Rattle.method.specs.declared.set.PayloadNumber.the-variants.{Good, Bad}
 
 abbrev pub done : Link → Performed
 done l = record { outcome = Done None; link = l }
@@ -46,7 +46,7 @@ getWith l p = cond (eqb (length p) 0) (done l) (refused l 9)
 -- ---- SET of a number
 
 -- step 6, "payload of wrong shape, octets left over .., or a bool not 00 or 01: 9", and step 7, "value out of range: 3"
-unfoldable pub valueIn : Numeric → List ℕ → Value
+unfoldable pub valueIn : Numeric → List ℕ → PayloadNumber
 valueIn n p = cond (eqb (length p) (n .width)) (cond (within n (le p)) (Good (le p)) (Bad (n .outside))) (Bad 9)
 
 -- "66 to 1 while 65 is 0, and 65 to 0 while 66 is 1, are 4"
@@ -54,7 +54,7 @@ unfoldable pub conflicts : List ℕ → ℕ → ℕ → Bool
 conflicts held slot v =
     (eqb slot stackUp && (eqb v 1 && eqb (getD held interfaceUp 0) 0)) || (eqb slot interfaceUp && (eqb v 0 && eqb (getD held stackUp 0) 1))
 
-unfoldable pub numberTo : Link → ℕ → Value → Performed
+unfoldable pub numberTo : Link → ℕ → PayloadNumber → Performed
 numberTo l slot (Bad s) = refused l s
 numberTo l slot (Good v) = cond (conflicts (l .numbers) slot v) (refused l 4) (done (withNumbers l (set (l .numbers) slot v)))
 
@@ -62,7 +62,7 @@ unfoldable pub setNumber : Link → ℕ → List ℕ → Performed
 setNumber l slot p = numberTo l slot (valueIn (numberAt slot) p)
 
 -- the power state is the whole box's
-unfoldable pub powerTo : Link → Value → Performed
+unfoldable pub powerTo : Link → PayloadNumber → Performed
 powerTo l (Bad s) = refused l s
 powerTo l (Good v) = record { outcome = Done (Powered v); link = l }
 

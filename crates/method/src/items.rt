@@ -29,7 +29,7 @@ pub fn insert(link: Link, payload: &[u8]) -> Performed
     if find_port(&octets[..len], 0, port) < len {
         return refused(link, status::ALREADY);
     }
-    if 2 * Link::MOST_PORTS <= len {
+    if 2 * Link::MAX_PORTS <= len {
         return refused(link, status::NOMEM);
     }
     let mut changed = link;
@@ -39,7 +39,7 @@ pub fn insert(link: Link, payload: &[u8]) -> Performed
 }
 
 // All but the two octets at a place; what stood behind them moves up.
-fn closed(octets: &[u8], at: usize) -> Held
+fn close_gap(octets: &[u8], at: usize) -> Held
     requires { ⌜ (at + 2 ≤ length (now octets)) × (length (now octets) ≤ 16) ⌝ }
     ensures { λ r. ⌜ r ≡ heldFrom (without at (now (octets .entry))) ⌝ }
 {
@@ -62,7 +62,7 @@ pub fn remove(link: Link, payload: &[u8]) -> Performed
         return refused(link, status::ITEM_NOT_FOUND);
     }
     let mut changed = link;
-    let less = closed(&octets[..len], at);
+    let less = close_gap(&octets[..len], at);
     changed.ports = less;
     done(changed)
 }

@@ -7,4 +7,4 @@ mod set;
 pub use outcome::Outcome;
 pub use outcome::Performed;
 pub use perform::perform_on;
-pub use set::Value;
+pub use set::PayloadNumber;

@@ -25,25 +25,25 @@ ghost use Rattle.property.specs.Rule.{rowRule};
 ghost use Rattle.device.specs.Rules.{linkRule};
 ghost use Rattle.method.specs.Perform.{valueIn, setNumber, setPower, setName, setPorts, setKind};
 
-pub enum Value {
+pub enum PayloadNumber {
     Good(u32),
     // Refused with this status.
     Bad(u8),
 }
 
 // The number that a payload holds, whole.
-fn read_number(number: Number, payload: &[u8]) -> Value
+fn read_number(number: Number, payload: &[u8]) -> PayloadNumber
     requires { ⌜ number .width ≤ 4 ⌝ }
     ensures { λ r. ⌜ r ≡ valueIn number (now (payload .entry)) ⌝ }
 {
     if payload.len() != number.width {
-        return Value::Bad(status::PARSE_ERROR);
+        return PayloadNumber::Bad(status::PARSE_ERROR);
     }
     let value = read_le(payload, 0, number.width);
     if is_within(number, value) {
-        return Value::Good(value);
+        return PayloadNumber::Good(value);
     }
-    Value::Bad(number.outside)
+    PayloadNumber::Bad(number.outside)
 }
 
 // Any of the nine numbers. Stack and interface are the only two that hang together: the numbers as they would be are tested.
@@ -52,8 +52,8 @@ fn set_number(link: Link, slot: usize, payload: &[u8]) -> Performed
     ensures { λ r. ⌜ r ≡ setNumber link slot (now (payload .entry)) ⌝ }
 {
     match read_number(number_at(slot), payload) {
-        Value::Bad(status) => refused(link, status),
-        Value::Good(value) => {
+        PayloadNumber::Bad(status) => refused(link, status),
+        PayloadNumber::Good(value) => {
             let mut numbers = link.numbers;
             numbers[slot] = value;
             if stack_keeps(numbers) {
@@ -71,8 +71,8 @@ fn set_power(link: Link, payload: &[u8]) -> Performed
     ensures { λ r. ⌜ r ≡ setPower link (now (payload .entry)) ⌝ }
 {
     match read_number(power_state(), payload) {
-        Value::Bad(status) => refused(link, status),
-        Value::Good(value) => Performed {
+        PayloadNumber::Bad(status) => refused(link, status),
+        PayloadNumber::Good(value) => Performed {
             outcome: Outcome::Done(Effect::Powered(value as u8)),
             link,
         },
@@ -86,7 +86,7 @@ fn set_name(link: Link, payload: &[u8]) -> Performed
     if end + 1 != payload.len() {
         return refused(link, status::PARSE_ERROR);
     }
-    if is_text(&payload[..end], Link::MOST_NAME) {
+    if is_text(&payload[..end], Link::MAX_NAME) {
         let mut changed = link;
         let name = Held::of(&payload[..end], b"");
         changed.name = name;
@@ -102,7 +102,7 @@ fn set_ports(link: Link, payload: &[u8]) -> Performed
         return refused(link, status::PARSE_ERROR);
     }
     if are_distinct(payload) {
-        if 2 * Link::MOST_PORTS < payload.len() {
+        if 2 * Link::MAX_PORTS < payload.len() {
             return refused(link, status::NOMEM);
         }
         let mut changed = link;

@@ -13,7 +13,7 @@ use Rattle.frame.proofs.LawsFrame.{unframed-octets}
 use Rattle.hdlc.specs.declared.reader.Fate.{Fate}
 use Rattle.hdlc.specs.declared.reader.Fate.the-variants.{Checked}
 use Rattle.hdlc.specs.declared.reader.Reader.{Reader}
-use Rattle.hdlc.specs.Reading.{mostGathered, outcome}
+use Rattle.hdlc.specs.Reader.{maxGathered, outcome}
 use Rattle.hdlc.specs.Wire.{bodyIn}
 use Rattle.hdlc.proofs.reader.Fate.{the-type as fate-type}
 use Rattle.hdlc.proofs.LawsFates.{headed-checked}
@@ -25,11 +25,11 @@ use Rattle.request.specs.Verdict.{headerOf}
 use Rattle.command.proofs.LawsDecisions.{Bounded}
 use Rattle.ncp.specs.Turns.{readBack, bodyBack, GotBack}
 
-cleared-room : mostGathered ≤ length {A = ℕ} (replicate mostGathered 0)
-cleared-room = omega (arith, length-replicate {A = ℕ} mostGathered 0)
+cleared-room : maxGathered ≤ length {A = ℕ} (replicate maxGathered 0)
+cleared-room = omega (arith, length-replicate {A = ℕ} maxGathered 0)
 
 -- what the reader gave, by the cases that the code tells apart
-module _ (xs : List ℕ) {f : Fate} {read : ℕ} {r : Reader} {a : List ℕ} (is : outcome f read r a ≡ readBack xs) (room : mostGathered ≤ length a) (o : Octets xs) where
+module _ (xs : List ℕ) {f : Fate} {read : ℕ} {r : Reader} {a : List ℕ} (is : outcome f read r a ≡ readBack xs) (room : maxGathered ≤ length a) (o : Octets xs) where
   body : bodyIn f a ≡ bodyBack xs
   unfolding bodyBack
   body = ap (λ z. bodyIn (z .fate) (z .state .assembly)) is
@@ -47,5 +47,5 @@ module _ (reply : List ℕ) (size : Bounded reply) (top : headerOf reply / 64 �
   pub frame-back : Octets (frame reply) → bodyBack (frame reply) ≡ reply
   unfolding bodyBack checked
   frame-back o =
-      rw (round-trip reply (omega arith) (unframed-octets reply o) (replicate mostGathered 0) cleared-room, headed-checked reply top, append-assoc)
+      rw (round-trip reply (omega arith) (unframed-octets reply o) (replicate maxGathered 0) cleared-room, headed-checked reply top, append-assoc)
       (take-append-seam reply _)

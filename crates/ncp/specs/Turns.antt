@@ -8,20 +8,20 @@ use lib.ListN.{length, take, replicate}
 use Rattle.octets.specs.Octets.{Octets}
 use Rattle.octets.specs.Writing.{Wrote}
 use Rattle.hdlc.specs.declared.reader.Reader.{Reader}
-use Rattle.hdlc.specs.Reading.{mostGathered, fresh, held, Outcome, run}
+use Rattle.hdlc.specs.Reader.{maxGathered, fresh, assembling, Outcome, run}
 use Rattle.hdlc.specs.Wire.{bodyIn}
 use Rattle.device.specs.declared.state.Device.{Device}
 use Rattle.engine.specs.Engine.{engine}
-use Rattle.serial.specs.declared.call.Answer.{Answer}
-use Rattle.serial.specs.declared.call.Answer.the-variants.{Read, BadState, SmallAssembly, SmallOutput}
-use Rattle.serial.specs.Receiving.{numberOf, leastOutput, Result, receive}
+use Rattle.serial.specs.declared.receiving.Answer.{Answer}
+use Rattle.serial.specs.declared.receiving.Answer.the-variants.{Read, BadState, SmallAssembly, SmallOutput}
+use Rattle.serial.specs.Receiving.{numberOf, minOutput, Result, receive}
 use Rattle.ncp.specs.declared.serve.Session.{Session}
 use Rattle.ncp.specs.declared.turn.Turn.{Turn}
 use Rattle.ncp.specs.Lines.{lineOf}
 
 -- the receiving call, lent a cleared output
 abbrev pub received : Device → Reader → List ℕ → List ℕ → Result
-received d r input a = receive d r input a (replicate leastOutput 0)
+received d r input a = receive d r input a (replicate minOutput 0)
 
 -- the checked body that a call read, at the front of the assembly buffer
 abbrev pub requestIn : Answer → List ℕ → List ℕ
@@ -52,7 +52,7 @@ pub record GoesOn (r : Result) (s : Session) (a : List ℕ) : Type 0 where
 
 -- a frame as a fresh reader reads it into a cleared assembly buffer
 abbrev pub readBack : List ℕ → Outcome
-readBack frame = run (held fresh (replicate mostGathered 0)) frame
+readBack frame = run (assembling fresh (replicate maxGathered 0)) frame
 
 -- its body, where it is checked
 unfoldable pub bodyBack : List ℕ → List ℕ

@@ -18,6 +18,6 @@ fn two_links() -> Device
 }
 
 fn main() {
-    let mut assembly = [0u8; Reader::MOST_GATHERED];
+    let mut assembly = [0u8; Reader::MAX_GATHERED];
     serve(two_links(), &mut assembly);
 }

@@ -7,11 +7,11 @@ use hdlc::read_frame;
 use serial::receive;
 ghost use mathlib.Core.Path.{_≡_};
 ghost use lib.ListN.{replicate};
-ghost use Rattle.hdlc.specs.Reading.{mostGathered};
+ghost use Rattle.hdlc.specs.Reader.{maxGathered};
 ghost use Rattle.ncp.specs.Turns.{GotBack, received, Took};
 
 // The longest line: three octets for each of a reply's 61.
-pub const MOST_LINE: usize = 3 * Device::MOST_REPLY;
+pub const MAX_LINE: usize = 3 * Device::MAX_REPLY;
 
 pub struct Turn {
     // How many octets of the input were read.
@@ -24,8 +24,8 @@ pub struct Turn {
 
 // A reply comes framed, and its line shows the body: what a fresh reader reads from the frame into a cleared buffer. Returns how many octets
 // the body has, from the front of the buffer.
-fn read_back(frame: &[u8], assembly: &mut [u8; Reader::MOST_GATHERED]) -> usize
-    requires { ⌜ now assembly ≡ replicate mostGathered 0 ⌝ }
+fn read_back(frame: &[u8], assembly: &mut [u8; Reader::MAX_GATHERED]) -> usize
+    requires { ⌜ now assembly ≡ replicate maxGathered 0 ⌝ }
     ensures { λ len. ⌜ GotBack (now (frame .entry)) (now (assembly .exit)) len ⌝ }
 {
     let reading = read_frame(Reader::fresh(), frame, assembly);
@@ -42,18 +42,18 @@ pub fn receive_line(
     reader: Reader,
     input: &[u8],
     assembly: &mut [u8],
-    line: &mut [u8; MOST_LINE],
+    line: &mut [u8; MAX_LINE],
 ) -> Turn
     ensures { λ t.
         ⌜ Took device (received device reader (now (input .entry)) (now (assembly .entry)))
         t (now (assembly .exit)) (now (line .entry)) (now (line .exit)) ⌝ }
 {
-    let mut output = [0u8; Device::LEAST_OUTPUT];
+    let mut output = [0u8; Device::MIN_OUTPUT];
     let received = receive(device, reader, input, assembly, &mut output);
     let written = received.written;
     let device = received.device;
     let next = received.reader;
-    let mut space = [0u8; Reader::MOST_GATHERED];
+    let mut space = [0u8; Reader::MAX_GATHERED];
     let len = read_back(&output[..written], &mut space);
     Turn {
         read: received.read,

@@ -1,12 +1,12 @@
 // Little-endian numbers of up to four octets, scans of octets, and the shape that every writer of octets has.
-mod find;
+mod finding;
 mod little_endian;
-mod write;
-mod zeros;
+mod scanning;
+mod writing;
 
-pub use find::find_octet;
+pub use finding::find_octet;
 pub use little_endian::read_le;
 pub use little_endian::write_le;
-pub use write::write_octet;
-pub use write::write_octets;
-pub use zeros::is_zero_from;
+pub use scanning::is_zero_from;
+pub use writing::write_octet;
+pub use writing::write_octets;

@@ -6,7 +6,7 @@ use native.Mathlib.Omega.{arith}
 use borrow.Author.Tests.{ltb-true, ltb-false, leb-true, leb-false, le-leb, lt-leb}
 use lib.Dec.{ltb, leb}
 use Rattle.octets.proofs.LawsTests.{by-test}
-use Rattle.property.specs.Numbers.{numbers, numberAt, within}
+use Rattle.property.specs.Number.{numbers, numberAt, within}
 
 -- "A signed octet from 128 to 255 means itself less 256": it is at least -40 where it lacks at most 40 of 256
 unfoldable pub fromMinus40To8 : ℕ → Bool

@@ -19,8 +19,8 @@ use Rattle.property.specs.declared.row.Row.{Row}
 use Rattle.property.specs.declared.row.Found.{Found}
 use Rattle.property.specs.declared.row.Found.the-variants.{At, Unknown}
 use Rattle.property.specs.declared.number.Number.{Number as Numeric}
-use Rattle.property.specs.Rows.{rows, noRow, lookupIn, lookup}
-use Rattle.property.specs.Numbers.{numbers, numberAt, powerState, within}
+use Rattle.property.specs.Row.{rows, noRow, lookupIn, lookup}
+use Rattle.property.specs.Number.{numbers, numberAt, powerState, within}
 use Rattle.property.specs.Rule.{ofDevice, isShared, kindRule, rowRule, numberRule}
 
 pub rows-keep : (i : ℕ) → i < 20 → rowRule (getD rows i noRow) ≡ true

@@ -1,3 +1,3 @@
-pub mod Rows
-pub mod Numbers
+pub mod Row
+pub mod Number
 pub mod Rule

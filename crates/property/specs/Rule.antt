@@ -13,7 +13,7 @@ use Rattle.property.specs.declared.row.Row.{Row}
 use Rattle.property.specs.declared.row.Found.{Found}
 use Rattle.property.specs.declared.row.Found.the-variants.{At, Unknown}
 use Rattle.property.specs.declared.number.Number.{Number as Numeric}
-use Rattle.property.specs.Numbers.{within}
+use Rattle.property.specs.Number.{within}
 
 abbrev pub ofDevice : Scope → Bool
 ofDevice scope.Device = true

@@ -3,7 +3,7 @@ use crate::slot;
 use crate::status;
 ghost use mathlib.Core.Path.{_≡_};
 ghost use Prim.Native.Nat.{_<_};
-ghost use Rattle.property.specs.Numbers.{numberAt, powerState, within};
+ghost use Rattle.property.specs.Number.{numberAt, powerState, within};
 ghost use mathlib.Core.Bool.{true};
 ghost use Rattle.property.specs.Rule.{numberRule};
 

@@ -3,7 +3,7 @@ use crate::slot;
 ghost use mathlib.Core.Path.{_≡_};
 ghost use Prim.Native.Nat.{_<_};
 ghost use lib.ListN.{getD};
-ghost use Rattle.property.specs.Rows.{rows, noRow, lookup, allows};
+ghost use Rattle.property.specs.Row.{rows, noRow, lookup, allows};
 ghost use Rattle.property.specs.Rule.{KeepsRule};
 
 // The commands that name a property.

@@ -23,4 +23,4 @@ pub const INVALID_COMMAND_FOR_PROP: u8 = 21;
 
 pub const RESET_SOFTWARE: u8 = 114;
 // The last of those that a link can hold.
-pub const MOST: u8 = 127;
+pub const MAX: u8 = 127;

@@ -8,7 +8,7 @@ use lib.ListN.{length, getD, length-append}
 use Rattle.octets.proofs.LawsLittleEndian.{length-le}
 use Rattle.packed.specs.Packed.{packed}
 use Rattle.packed.proofs.ReadsBack.{packed-size}
-use Rattle.property.specs.Numbers.{numberAt}
+use Rattle.property.specs.Number.{numberAt}
 use Rattle.property.specs.declared.row.Command.{Command}
 use Rattle.property.specs.declared.row.Kind.{Kind}
 use Rattle.property.specs.declared.row.Kind.the-variants.{ReadOnly, Power, Number, Name, Ports}
@@ -21,7 +21,7 @@ use Rattle.device.specs.Rules.{settingsRule, linkRule}
 use Rattle.device.proofs.StateRules.{settings-told, name-room, ports-room}
 use Rattle.device.specs.declared.view.View.{View}
 use Rattle.reply.specs.Value.{fixedValue, numberValue, valueOf}
-use Rattle.reply.specs.Reply.{content, replied}
+use Rattle.reply.specs.Reply.{content, successReply}
 
 module _ (v : View) (s : settingsRule (v .settings) ≡ true) where
   fixed-size : (x : Fixed) → length (fixedValue v x) ≤ 33
@@ -47,8 +47,8 @@ module _ (v : View) (s : settingsRule (v .settings) ≡ true) where
   value-size l Ports h = let t = ports-room (v .link) l in omega (arith, t .most, t .counted)
 
 pub replied-size : (v : View) (h : ℕ) (c : Command) (r : Row) (p : List ℕ) → length (content v c (r .kind) p) ≤ 33
-    → (3 ≤ length (replied v h c r p)) × (length (replied v h c r p) ≤ 61)
-unfolding replied
+    → (3 ≤ length (successReply v h c r p)) × (length (successReply v h c r p) ≤ 61)
+unfolding successReply
 replied-size v h c r p few =
     let id = packed-size (r .id) in
     let all = length-append (packed (r .id)) (content v c (r .kind) p) in

@@ -7,7 +7,7 @@ use lib.ListN.{getD}
 use Rattle.octets.specs.LittleEndian.{leOctets}
 use Rattle.octets.proofs.LawsTests.{impossible}
 use Rattle.packed.specs.Packed.{packed}
-use Rattle.property.specs.Numbers.{numberAt}
+use Rattle.property.specs.Number.{numberAt}
 use Rattle.property.specs.Rule.{ofDevice, fixedShared, isShared, rowRule}
 use Rattle.property.specs.declared.row.ReadOnly.{ReadOnly as Fixed}
 use Rattle.property.specs.declared.row.ReadOnly.the-variants.{LastStatus, ProtocolVersion, VersionText, InterfaceType, Vendor, Capabilities, InterfaceCount, HardwareAddress}

@@ -27,5 +27,5 @@ content v Insert k p = p
 content v Remove k p = p
 
 -- "A reply repeats the request's header"
-unfoldable pub replied : View → ℕ → Command → Row → List ℕ → List ℕ
-replied v h c r p = h ∷ replyCommand c ∷ (packed (r .id) ++ content v c (r .kind) p)
+unfoldable pub successReply : View → ℕ → Command → Row → List ℕ → List ℕ
+successReply v h c r p = h ∷ replyCommand c ∷ (packed (r .id) ++ content v c (r .kind) p)

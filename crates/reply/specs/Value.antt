@@ -4,7 +4,7 @@ use mathlib.Core.List.{List, [], _∷_, _++_}
 use lib.ListN.{getD}
 use Rattle.octets.specs.LittleEndian.{leOctets}
 use Rattle.packed.specs.Packed.{packed}
-use Rattle.property.specs.Numbers.{numberAt}
+use Rattle.property.specs.Number.{numberAt}
 use Rattle.property.specs.declared.row.ReadOnly.{ReadOnly as Fixed}
 use Rattle.property.specs.declared.row.ReadOnly.the-variants.{LastStatus, ProtocolVersion, VersionText, InterfaceType, Vendor, Capabilities, InterfaceCount, HardwareAddress}
 use Rattle.property.specs.declared.row.Kind.{Kind}

@@ -13,7 +13,7 @@ ghost use lib.ListN.{length};
 ghost use Rattle.octets.specs.Writing.{Wrote};
 ghost use Rattle.property.specs.Rule.{rowRule};
 ghost use Rattle.device.specs.Rules.{settingsRule, linkRule};
-ghost use Rattle.reply.specs.Reply.{statusReply, replyCommand, content, replied};
+ghost use Rattle.reply.specs.Reply.{statusReply, replyCommand, content, successReply};
 
 // Command 6, property 0, a status below 128.
 pub fn write_status(out: &mut [u8], header: u8, status: u8) -> usize
@@ -66,7 +66,7 @@ pub fn write_reply(
 ) -> usize
     requires { ⌜ (settingsRule (view .settings) ≡ true) × (linkRule (view .link) ≡ true) × (rowRule row ≡ true) ⌝ }
     requires { ⌜ (61 ≤ length (now out)) × (length (content view command (row .kind) (now payload)) ≤ 33) ⌝ }
-    ensures { λ next. ⌜ Wrote (now (out .entry)) (now (out .exit)) 0 next (replied view header command row (now (payload .entry))) ⌝ }
+    ensures { λ next. ⌜ Wrote (now (out .entry)) (now (out .exit)) 0 next (successReply view header command row (now (payload .entry))) ⌝ }
 {
     let header_end = write_octet(out, 0, header);
     let command_end = write_octet(out, header_end, reply_command(command));

@@ -12,7 +12,7 @@ use Rattle.packed.specs.Packed.{packedAt}
 use Rattle.packed.specs.declared.Packed.{Packed}
 use Rattle.packed.specs.declared.Packed.the-variants.{Number, Unreadable}
 use Rattle.packed.proofs.OneSpelling.{place-after, one-octet}
-use Rattle.property.specs.Rows.{lookup, allows}
+use Rattle.property.specs.Row.{lookup, allows}
 use Rattle.property.specs.Rule.{rowRule}
 use Rattle.property.specs.declared.row.Command.{Command}
 use Rattle.property.specs.declared.row.Found.{Found}

@@ -7,7 +7,7 @@ use lib.ListN.{getD}
 use Rattle.packed.specs.Packed.{packedAt}
 use Rattle.packed.specs.declared.Packed.{Packed}
 use Rattle.packed.specs.declared.Packed.the-variants.{Number, Unreadable}
-use Rattle.property.specs.Rows.{lookup, allows}
+use Rattle.property.specs.Row.{lookup, allows}
 use Rattle.property.specs.declared.row.Command.{Command}
 use Rattle.property.specs.declared.row.Command.the-variants.{Get, Set, Insert, Remove}
 use Rattle.property.specs.declared.row.Found.{Found}

@@ -13,7 +13,7 @@ use Rattle.octets.proofs.LawsTests.{chosen}
 use Rattle.frame.specs.Frame.{frame, stuffed}
 use Rattle.hdlc.specs.declared.reader.Fate.{Fate}
 use Rattle.hdlc.specs.declared.reader.Fate.the-variants.{Unfinished, Checked, Short, WrongCheck, TooLong, CutEscape, BadHeader}
-use Rattle.hdlc.specs.Reading.{number, mostGathered, fresh}
+use Rattle.hdlc.specs.Reader.{fateNumber, maxGathered, fresh}
 use Rattle.hdlc.specs.States.{openPiece}
 use Rattle.hdlc.specs.Wire.{call}
 use Rattle.hdlc.proofs.ClosedForm.{open-holds}
@@ -22,7 +22,7 @@ use Rattle.device.specs.declared.state.Device.{Device}
 use Rattle.device.proofs.SetupKeepsRules.{setup-keeps}
 use Rattle.engine.specs.Merged.{repliesTo}
 use Rattle.engine.proofs.LawsRepliesInOrder.{one-each}
-use Rattle.serial.specs.Receiving.{numberOf, leastOutput, Result}
+use Rattle.serial.specs.Receiving.{numberOf, minOutput, Result}
 use Rattle.serial.specs.Histories.{Setup, deviceFrom, ReceivingCall, lentFrom, History, start, endOf, gives, replyIn, repliesIn, readIn, readBy, laid, checkedIn, bodies, Report, reported, callMeans, openAfter, deviceIn}
 use Rattle.serial.proofs.LawsHistories.{Stands, Step, step, Runs, runs}
 
@@ -55,7 +55,7 @@ few-replies r = chosen (λ (l : List (List ℕ)). length l ≤ 1) (eqb (r .writt
 
 -- ---- no call of a history is refused with 11
 
-few : (f : Fate) → number f ≤ 6
+few : (f : Fate) → fateNumber f ≤ 6
 few Unfinished = omega arith
 few (Checked n) = omega arith
 few Short = omega arith
@@ -67,8 +67,8 @@ few BadHeader = omega arith
 never : (a p : List ℕ) (d : Device) (c : ReceivingCall) → callMeans a p d c .number ≢ 11
 unfolding callMeans
 never a p d c =
-    chosen (λ (m : Report). m .number ≢ 11) (ltb (length (lentFrom (c .lent) a)) mostGathered) (λ _ e. omega arith)
-    (λ _. chosen (λ (m : Report). m .number ≢ 11) (ltb (length (c .output)) leastOutput) (λ _ e. omega arith)
+    chosen (λ (m : Report). m .number ≢ 11) (ltb (length (lentFrom (c .lent) a)) maxGathered) (λ _ e. omega arith)
+    (λ _. chosen (λ (m : Report). m .number ≢ 11) (ltb (length (c .output)) minOutput) (λ _ e. omega arith)
     (λ _ e. omega (arith, few (call p (c .input) .fate))))
 
 module _ (s : Setup) (h : History) where

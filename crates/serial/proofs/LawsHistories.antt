@@ -11,10 +11,10 @@ use Rattle.octets.specs.Runs.{each}
 use Rattle.octets.proofs.LawsRuns.{each-append, emitted-append}
 use Rattle.octets.proofs.LawsTests.{by-test}
 use Rattle.frame.specs.Frame.{frame}
-use Rattle.hdlc.specs.Reading.{number, mostGathered, held, Outcome, run}
+use Rattle.hdlc.specs.Reader.{fateNumber, maxGathered, assembling, Outcome, run}
 use Rattle.hdlc.specs.Rules.{rules as readerRules}
-use Rattle.hdlc.specs.States.{closed}
-use Rattle.hdlc.specs.Wire.{told as toldOf, verdicts, finished, ended, grown, unfinished, call, callReads}
+use Rattle.hdlc.specs.States.{closedForm}
+use Rattle.hdlc.specs.Wire.{fated as toldOf, fatesOf, finished, ended, grown, unfinished, call, callReads}
 use Rattle.hdlc.proofs.ClosedForm.{call-closed, same-room}
 use Rattle.hdlc.proofs.LawsCalls.{After, after-call, call-tells}
 use Rattle.hdlc.proofs.LawsPieces.{unfinished-append}
@@ -24,20 +24,20 @@ use Rattle.device.specs.Rules.{rules}
 use Rattle.engine.specs.Merged.{deviceAfter, repliesTo}
 use Rattle.engine.proofs.LawsRepliesInOrder.{device-append, replies-append}
 use Rattle.engine.proofs.RulesKept.{bodies-keep}
-use Rattle.serial.specs.declared.call.Answer.{Answer}
-use Rattle.serial.specs.declared.call.Answer.the-variants.{SmallAssembly, SmallOutput}
-use Rattle.serial.specs.Receiving.{numberOf, leastOutput, breaksRules, refused, unrefused, receive}
+use Rattle.serial.specs.declared.receiving.Answer.{Answer}
+use Rattle.serial.specs.declared.receiving.Answer.the-variants.{SmallAssembly, SmallOutput}
+use Rattle.serial.specs.Receiving.{numberOf, minOutput, breaksRules, refused, unrefused, receive}
 use Rattle.serial.specs.Histories.{Lent, own, short, ReceivingCall, State, lentFrom, leftIn, gives, next, replyIn, repliesFrom, readFrom, isRefused, readBy, laidFrom, checkedOf, checkedIn, report, reported, callMeans}
 use Rattle.serial.proofs.LawsReceiving.{unrefused-device, unrefused-reply, unrefused-octets, unrefused-read}
 
 -- ---- octets end to end
 
 pub checked-append : (p xs ys : List ℕ) → checkedIn p (xs ++ ys) ≡ checkedIn p xs ++ checkedIn (unfinished p xs) ys
-unfolding checkedIn checkedOf verdicts finished unfinished
+unfolding checkedIn checkedOf fatesOf finished unfinished
 checked-append p xs ys =
-    ap (λ ps. checkedOf (verdicts ps)) (emitted-append ended grown p xs ys)
+    ap (λ ps. checkedOf (fatesOf ps)) (emitted-append ended grown p xs ys)
     ∙ ap checkedOf (each-append _ (finished p xs) (finished (unfinished p xs) ys))
-    ∙ each-append _ (verdicts (finished p xs)) (verdicts (finished (unfinished p xs) ys))
+    ∙ each-append _ (fatesOf (finished p xs)) (fatesOf (finished (unfinished p xs) ys))
 
 pub frames-append : (d : Device) (bs cs : List (List ℕ))
     → map frame (repliesTo d (bs ++ cs)) ≡ map frame (repliesTo d bs) ++ map frame (repliesTo (deviceAfter d bs) cs)
@@ -49,9 +49,9 @@ lent-size : (l : Lent) (a b : List ℕ) → length a ≡ length b → length (le
 lent-size own a b e = e
 lent-size (short x h) a b e = refl
 
-lent-own : (l : Lent) (a : List ℕ) → ltb (length (lentFrom l a)) mostGathered ≡ false → l ≡ own
+lent-own : (l : Lent) (a : List ℕ) → ltb (length (lentFrom l a)) maxGathered ≡ false → l ≡ own
 lent-own own a e = refl
-lent-own (short x h) a e = absurd (omega (arith, ltb-false (length x) mostGathered e))
+lent-own (short x h) a e = absurd (omega (arith, ltb-false (length x) maxGathered e))
 
 left-same : (l : Lent) (a : List ℕ) → leftIn l a (lentFrom l a) ≡ a
 left-same own a = refl
@@ -64,7 +64,7 @@ pub record Stands (a p : List ℕ) (t : State) : Type 0 where
   pub device : rules (t .device) ≡ true
   pub reader : readerRules (t .reader) ≡ true
   pub size : length (t .assembly) ≡ length a
-  pub holds : mostGathered ≤ length a → After p (held (t .reader) (t .assembly))
+  pub holds : maxGathered ≤ length a → After p (assembling (t .reader) (t .assembly))
 
 -- a call, told by the octets w that it read
 pub record Step (a p w : List ℕ) (t : State) (c : ReceivingCall) : Type 0 where
@@ -91,7 +91,7 @@ module _ (a p : List ℕ) (t : State) (c : ReceivingCall) (s : Stands a p t) whe
         λ i. record { device = g i .device; reader = g i .reader; assembly = left i }
 
     refused-step : isRefused a c ≡ true → callMeans a p (t .device) c ≡ report (numberOf n) 0 [] → Step a p (readBy a p c) t c
-    unfolding readBy checkedIn checkedOf verdicts finished unfinished repliesTo deviceAfter next replyIn reported
+    unfolding readBy checkedIn checkedOf fatesOf finished unfinished repliesTo deviceAfter next replyIn reported
     refused-step e m =
         rw e
         (record {
@@ -103,24 +103,24 @@ module _ (a p : List ℕ) (t : State) (c : ReceivingCall) (s : Stands a p t) whe
         })
 
   -- a call that is not refused reads with the own buffer
-  module _ (e : ltb (length (lentFrom (c .lent) a)) mostGathered ≡ false) (f : ltb (length (c .output)) leastOutput ≡ false) where
+  module _ (e : ltb (length (lentFrom (c .lent) a)) maxGathered ≡ false) (f : ltb (length (c .output)) minOutput ≡ false) where
     outcome : Outcome
-    outcome = run (held (t .reader) (t .assembly)) (c .input)
+    outcome = run (assembling (t .reader) (t .assembly)) (c .input)
 
     is-own : c .lent ≡ own
     is-own = lent-own (c .lent) a e
 
-    room : mostGathered ≤ length a
+    room : maxGathered ≤ length a
     room = ltb-false _ _ (rw is-own at e)
 
     answers : gives t c ≡ unrefused (t .device) outcome (c .output)
     unfolding gives receive outcome
-    answers = rw (keeps, size, e, f) (ap (λ l. unrefused (t .device) (run (held (t .reader) (lentFrom l (t .assembly))) (c .input)) (c .output)) is-own)
+    answers = rw (keeps, size, e, f) (ap (λ l. unrefused (t .device) (run (assembling (t .reader) (lentFrom l (t .assembly))) (c .input)) (c .output)) is-own)
 
-    behind : After p (held (t .reader) (t .assembly))
+    behind : After p (assembling (t .reader) (t .assembly))
     behind = s .holds room
 
-    is-closed : outcome ≡ closed (call p (c .input)) (behind .under)
+    is-closed : outcome ≡ closedForm (call p (c .input)) (behind .under)
     unfolding outcome
     is-closed = ap (λ h. run h (c .input)) (behind .state) ∙ call-closed (c .input) p (behind .under) (behind .room)
 
@@ -134,18 +134,18 @@ module _ (a p : List ℕ) (t : State) (c : ReceivingCall) (s : Stands a p t) whe
     unfolding next
     device-next = ap (λ q. q .device) answers ∙ unrefused-device (t .device) outcome (c .output) found
 
-    state-next : held (next t c .reader) (next t c .assembly) ≡ outcome .state
+    state-next : assembling (next t c .reader) (next t c .assembly) ≡ outcome .state
     unfolding next
     state-next =
-        ap (λ l. held (gives t c .reader) (leftIn l (t .assembly) (gives t c .assembly))) is-own
-        ∙ ap (λ q. held (q .reader) (q .assembly)) answers
+        ap (λ l. assembling (gives t c .reader) (leftIn l (t .assembly) (gives t c .assembly))) is-own
+        ∙ ap (λ q. assembling (q .reader) (q .assembly)) answers
         ∙ unrefused-read (t .device) outcome (c .output) .2
 
     stands-next : Stands a (unfinished p (callReads p (c .input))) (next t c)
     unfolding outcome
     stands-next =
         let keeps = rules-told (t .reader) (s .reader) in
-        let wide : mostGathered ≤ length (t .assembly) = rw (s .size) room in
+        let wide : maxGathered ≤ length (t .assembly) = rw (s .size) room in
         record {
           device = rw device-next (bodies-keep (t .device) (checkedIn p (callReads p (c .input))) (s .device));
           reader = ap (λ h. readerRules (h .reader)) state-next ∙ run-rules (t .reader) (t .assembly) (c .input) keeps wide;
@@ -153,15 +153,15 @@ module _ (a p : List ℕ) (t : State) (c : ReceivingCall) (s : Stands a p t) whe
           holds = λ _. rw (state-next, behind .state) (after-call p (behind .under) (c .input) (behind .room));
         }
 
-    fate-read : numberOf (gives t c .answer) ≡ number (call p (c .input) .fate)
-    unfolding closed
+    fate-read : numberOf (gives t c .answer) ≡ fateNumber (call p (c .input) .fate)
+    unfolding closedForm
     fate-read =
         ap (λ r. numberOf (r .answer)) answers
         ∙ ap numberOf (unrefused-read (t .device) outcome (c .output) .0)
-        ∙ ap (λ o. number (o .fate)) is-closed
+        ∙ ap (λ o. fateNumber (o .fate)) is-closed
 
     count-read : gives t c .read ≡ call p (c .input) .read
-    unfolding closed
+    unfolding closedForm
     count-read = ap (λ r. r .read) answers ∙ unrefused-read (t .device) outcome (c .output) .1 ∙ ap (λ o. o .read) is-closed
 
     octets-written : take (gives t c .written) (gives t c .output) ≡ each frame (repliesTo (t .device) (checkedIn p (callReads p (c .input))))
@@ -182,10 +182,10 @@ module _ (a p : List ℕ) (t : State) (c : ReceivingCall) (s : Stands a p t) whe
   pub step : Step a p (readBy a p c) t c
   unfolding isRefused callMeans gives receive
   step =
-      by-test (ltb (length (lentFrom (c .lent) a)) mostGathered)
+      by-test (ltb (length (lentFrom (c .lent) a)) maxGathered)
       (λ e. refused-step SmallAssembly (rw (keeps, size, e)) (rw e) (rw e))
       (λ e.
-      by-test (ltb (length (c .output)) leastOutput) (λ f. refused-step SmallOutput (rw (keeps, size, e, f)) (rw (e, f)) (rw (e, f))) (read-step e))
+      by-test (ltb (length (c .output)) minOutput) (λ f. refused-step SmallOutput (rw (keeps, size, e, f)) (rw (e, f)) (rw (e, f))) (read-step e))
 
 -- ---- all calls
 
@@ -196,7 +196,7 @@ pub record Runs (a p : List ℕ) (t : State) (cs : List ReceivingCall) : Type 0 
   pub stands : Stands a (unfinished p (laidFrom a p cs)) (foldl next t cs)
 
 pub runs : (a p : List ℕ) (t : State) (cs : List ReceivingCall) → Stands a p t → Runs a p t cs
-unfolding readFrom laidFrom repliesFrom checkedIn checkedOf verdicts finished unfinished repliesTo deviceAfter
+unfolding readFrom laidFrom repliesFrom checkedIn checkedOf fatesOf finished unfinished repliesTo deviceAfter
 runs a p t [] s = record { read = refl; replies = refl; device = refl; stands = s }
 runs a p t (c ∷ cs) s =
     let w = readBy a p c in

@@ -7,9 +7,9 @@ use mathlib.Core.List.{List, [], _∷_, _++_, append-assoc, append-nil, map}
 use Prim.Native.Nat.{ℕ, _/_}
 use lib.Seq.{take-length}
 use Rattle.octets.specs.Octets.{Octets}
-use Rattle.frame.specs.Kinds.{isFlag}
+use Rattle.frame.specs.Kind.{isFlag}
 use Rattle.frame.specs.Frame.{Body, stuffed, checked, frame}
-use Rattle.hdlc.specs.Wire.{kept, gathered, cutEscape, verdict, ended, grown, finished, unfinished, told, verdicts}
+use Rattle.hdlc.specs.Wire.{kept, gathered, cutEscape, pieceFate, ended, grown, finished, unfinished, fated, fatesOf}
 use Rattle.hdlc.proofs.LawsFates.{headed-checked}
 use Rattle.hdlc.proofs.LawsPieces.{unfinished-append}
 use Rattle.hdlc.proofs.RoundTrip.{frame-told, frame-leaves}
@@ -35,7 +35,7 @@ flag-ends xs = unfinished-append [] xs (0x7e ∷ [])
 
 -- one with nothing before it is no frame
 flag-alone : (xs : List ℕ) → checkedIn [] (0x7e ∷ xs) ≡ checkedIn [] xs
-unfolding checkedIn checkedOf verdicts finished ended grown isFlag verdict gathered cutEscape kept told
+unfolding checkedIn checkedOf fatesOf finished ended grown isFlag pieceFate gathered cutEscape kept fated
 flag-alone xs = refl
 
 -- so what a flag follows and what follows it have their own bodies
@@ -48,7 +48,7 @@ flag-parts xs ys =
 module _ (b : List ℕ) (size : Body b) (octets : Octets b) (top : headerOf b / 64 ≡ 2) where
   -- a frame is one checked body, and leaves nothing open
   frame-checked : checkedIn [] (frame b) ≡ b ∷ []
-  unfolding checkedIn checkedOf told
+  unfolding checkedIn checkedOf fated
   frame-checked = ap checkedOf (frame-told b size octets) ∙ rw (headed-checked b top) (ap (λ l. l ∷ []) (take-length b))
 
   frame-then : (ys : List ℕ) → checkedIn [] (frame b ++ ys) ≡ b ∷ checkedIn [] ys
@@ -74,7 +74,7 @@ module _ (b : List ℕ) (size : Body b) (octets : Octets b) (top : headerOf b / 
 
   -- a flag of its own before the frame, and nothing after it: the last reply is b's
   pub last-reply : (s : Setup) (h : History) (xs : List ℕ) → laid h ≡ xs ++ (0x7e ∷ frame b) → Answers s h (checkedIn [] (xs ++ (0x7e ∷ []))) b []
-  unfolding checkedIn checkedOf verdicts finished
+  unfolding checkedIn checkedOf fatesOf finished
   last-reply s h xs e =
       let noise : List ℕ = xs ++ (0x7e ∷ []) in
       let last : laid h ≡ noise ++ (frame b ++ []) = e ∙ sym (ap (λ l. noise ++ l) (append-nil (frame b)) ∙ append-assoc xs (0x7e ∷ []) (frame b)) in

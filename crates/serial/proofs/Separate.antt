@@ -7,7 +7,7 @@ use mathlib.Core.List.{[], _∷_, map}
 use Prim.Native.Nat.{ℕ, _<_}
 use lib.Dec.{ltb}
 use Rattle.frame.specs.Frame.{frame}
-use Rattle.property.specs.Rows.{rows}
+use Rattle.property.specs.Row.{rows}
 use Rattle.device.proofs.SetupKeepsRules.{setup-keeps}
 use Rattle.device.specs.View.{viewOf}
 use Rattle.reply.specs.Value.{valueOf}

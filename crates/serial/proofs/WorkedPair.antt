@@ -9,10 +9,10 @@ use lib.ListN.{length, replicate}
 use Rattle.octets.specs.Finding.{before}
 use Rattle.octets.specs.LittleEndian.{le, leAt}
 use Rattle.octets.specs.Padding.{pad}
-use Rattle.frame.specs.Kinds.{isFlag, isEscape, isSkipped}
+use Rattle.frame.specs.Kind.{isFlag, isEscape, isSkipped}
 use Rattle.frame.specs.Fcs.{fcsBit, fcsBits, fcsOctet, fcsFrom, fcs}
-use Rattle.hdlc.specs.Reading.{bodyOf, checkOf, headed, judged}
-use Rattle.hdlc.specs.Wire.{kept, meant, pends, gathered, cutEscape, verdict, ended, grown, finished, unfinished, told, verdicts, verdictAt, call, callReads}
+use Rattle.hdlc.specs.Reader.{bodyOf, checkOf, headed, frameFate}
+use Rattle.hdlc.specs.Wire.{kept, meant, pends, gathered, cutEscape, pieceFate, ended, grown, finished, unfinished, fated, fatesOf, pieceFateAt, call, callReads}
 use Rattle.device.specs.State.{goodText, isText, fresh}
 use Rattle.device.specs.Setup.{isSetup, setupFor}
 use Rattle.device.specs.declared.view.Effect.the-variants.{Reset, Powered}
@@ -80,15 +80,15 @@ expected =
     []
 
 pub both-merged : (mergedIn two-links 1 noisy ≡ expected) × (mergedIn two-links 1 clean ≡ expected)
-unfolding before le leAt pad isFlag isEscape isSkipped fcsBit fcsBits fcsOctet fcsFrom fcs bodyOf checkOf headed judged
-    kept meant pends gathered cutEscape verdict ended grown finished unfinished told verdicts verdictAt call callReads
+unfolding before le leAt pad isFlag isEscape isSkipped fcsBit fcsBits fcsOctet fcsFrom fcs bodyOf checkOf headed frameFate
+    kept meant pends gathered cutEscape pieceFate ended grown finished unfinished fated fatesOf pieceFateAt call callReads
     goodText isText fresh isSetup setupFor linkOf isSetUp isReset isPower effectOf effectItem itemOf merged
     isRefused readBy laidFrom laid checkedOf checkedIn bodies mergedIn
 both-merged = (refl, refl)
 
 pub other-bodies : (length (bodies noisy) ≡ 7) × (length (bodies clean) ≡ 6)
-unfolding le leAt isFlag isEscape isSkipped fcsBit fcsBits fcsOctet fcsFrom fcs bodyOf checkOf headed judged
-    kept meant pends gathered cutEscape verdict ended grown finished unfinished told verdicts verdictAt call callReads
+unfolding le leAt isFlag isEscape isSkipped fcsBit fcsBits fcsOctet fcsFrom fcs bodyOf checkOf headed frameFate
+    kept meant pends gathered cutEscape pieceFate ended grown finished unfinished fated fatesOf pieceFateAt call callReads
     isRefused readBy laidFrom laid checkedOf checkedIn bodies
 other-bodies = (refl, refl)
 

@@ -7,12 +7,12 @@ use lib.ListN.{length, take}
 use Rattle.octets.specs.Runs.{each, emitted}
 use Rattle.frame.specs.Frame.{frame}
 use Rattle.hdlc.specs.declared.reader.Reader.{Reader}
-use Rattle.hdlc.specs.Reading.{number, mostGathered, fresh}
-use Rattle.hdlc.specs.Wire.{Verdict, verdicts, finished, unfinished, call, callReads}
+use Rattle.hdlc.specs.Reader.{fateNumber, maxGathered, fresh}
+use Rattle.hdlc.specs.Wire.{Fated, fatesOf, finished, unfinished, call, callReads}
 use Rattle.device.specs.declared.state.Device.{Device}
 use Rattle.device.specs.Setup.{setupFor}
 use Rattle.engine.specs.Merged.{deviceAfter, repliesTo}
-use Rattle.serial.specs.Receiving.{numberOf, leastOutput, Result, receive}
+use Rattle.serial.specs.Receiving.{numberOf, minOutput, Result, receive}
 
 -- ---- histories
 
@@ -30,7 +30,7 @@ deviceFrom s = setupFor (s .links) (s .vendor) (s .text) (s .address) .device
 -- the assembly buffer that a call is lent: the history's own, or "instead .. one under 1,302"
 pub data Lent : Type 0 where
   own : Lent
-  short : (b : List ℕ) → length b < mostGathered → Lent
+  short : (b : List ℕ) → length b < maxGathered → Lent
 
 -- "Inputs and output spaces are any"
 pub record ReceivingCall : Type 0 where
@@ -103,7 +103,7 @@ readIn s h = readFrom (start s (h .assembly)) (h .calls)
 
 -- a call is refused for its buffers alone; `a` is the history's own, whose length no call changes
 unfoldable pub isRefused : List ℕ → ReceivingCall → Bool
-isRefused a c = ltb (length (lentFrom (c .lent) a)) mostGathered || ltb (length (c .output)) leastOutput
+isRefused a c = ltb (length (lentFrom (c .lent) a)) maxGathered || ltb (length (c .output)) minOutput
 
 -- after an open piece p a call reads nothing if it is refused, else "its input to the first flag with a fate, that flag included, else all"
 unfoldable pub readBy : List ℕ → List ℕ → ReceivingCall → List ℕ
@@ -117,12 +117,12 @@ unfoldable pub laid : History → List ℕ
 laid h = laidFrom (h .assembly) [] (h .calls)
 
 -- "A checked frame is one with fate 1"; the bodies of those among verdicts
-unfoldable pub checkedOf : List Verdict → List (List ℕ)
+unfoldable pub checkedOf : List Fated → List (List ℕ)
 checkedOf vs = each (λ v. cond (eqb (v .number) 1) (v .body ∷ []) []) vs
 
 -- the checked bodies that octets finish after an open piece p: "Cut this at the flags"
 unfoldable pub checkedIn : List ℕ → List ℕ → List (List ℕ)
-checkedIn p xs = checkedOf (verdicts (finished p xs))
+checkedIn p xs = checkedOf (fatesOf (finished p xs))
 
 -- the checked bodies of a history, in order
 unfoldable pub bodies : History → List (List ℕ)
@@ -146,9 +146,9 @@ reported r = report (numberOf (r .answer)) (r .read) (take (r .written) (r .outp
 -- that has one (0 if none has), the octets up to its flag, and the frames of the replies to what was checked
 unfoldable pub callMeans : List ℕ → List ℕ → Device → ReceivingCall → Report
 callMeans a p d c =
-    cond (ltb (length (lentFrom (c .lent) a)) mostGathered) (report 12 0 [])
-    (cond (ltb (length (c .output)) leastOutput) (report 13 0 [])
-    (report (number (call p (c .input) .fate)) (call p (c .input) .read) (each frame (repliesTo d (checkedIn p (callReads p (c .input)))))))
+    cond (ltb (length (lentFrom (c .lent) a)) maxGathered) (report 12 0 [])
+    (cond (ltb (length (c .output)) minOutput) (report 13 0 [])
+    (report (fateNumber (call p (c .input) .fate)) (call p (c .input) .read) (each frame (repliesTo d (checkedIn p (callReads p (c .input)))))))
 
 -- the piece that is open after a history, and the device
 unfoldable pub openAfter : History → List ℕ

@@ -6,26 +6,26 @@ use lib.Dec.{eqb, ltb}
 use lib.ListN.{length}
 use Rattle.frame.specs.Frame.{writing}
 use Rattle.hdlc.specs.declared.reader.Reader.{Reader}
-use Rattle.hdlc.specs.Reading.{number, mostGathered, held, Outcome, run}
+use Rattle.hdlc.specs.Reader.{fateNumber, maxGathered, assembling, Outcome, run}
 use Rattle.hdlc.specs.Rules.{rules as readerRules}
 use Rattle.hdlc.specs.Wire.{bodyIn}
 use Rattle.device.specs.declared.state.Device.{Device}
 use Rattle.device.specs.Rules.{rules}
-use Rattle.engine.specs.Engine.{Answer as Answered, engine}
-use Rattle.serial.specs.declared.call.Answer.{Answer}
-use Rattle.serial.specs.declared.call.Answer.the-variants.{Read, BadState, SmallAssembly, SmallOutput}
-use Rattle.serial.specs.declared.call.Received.{Received}
+use Rattle.engine.specs.Engine.{Response as Answered, engine}
+use Rattle.serial.specs.declared.receiving.Answer.{Answer}
+use Rattle.serial.specs.declared.receiving.Answer.the-variants.{Read, BadState, SmallAssembly, SmallOutput}
+use Rattle.serial.specs.declared.receiving.Received.{Received}
 
 -- 01's number of an answer
 abbrev pub numberOf : Answer → ℕ
-numberOf (Read f) = number f
+numberOf (Read f) = fateNumber f
 numberOf BadState = 11
 numberOf SmallAssembly = 12
 numberOf SmallOutput = 13
 
 -- "refused: output under 128"
-abbrev pub leastOutput : ℕ
-leastOutput = 128
+abbrev pub minOutput : ℕ
+minOutput = 128
 
 -- what a call returns, and every octet of the two buffers that it was lent
 pub record Result : Type 0 where
@@ -82,7 +82,7 @@ unanswered o d out =
 -- what was read; a checked body stands at the front of the assembly buffer
 unfoldable pub unrefused : Device → Outcome → List ℕ → Result
 unrefused d o out =
-    cond (eqb (number (o .fate)) 1) (replied o (engine d (bodyIn (o .fate) (o .state .assembly))) out) (unanswered o d out)
+    cond (eqb (fateNumber (o .fate)) 1) (replied o (engine d (bodyIn (o .fate) (o .state .assembly))) out) (unanswered o d out)
 
 -- "state breaks its own rules": the box, or the reader
 unfoldable pub breaksRules : Device → Reader → Bool
@@ -92,6 +92,6 @@ breaksRules d r = not (rules d && readerRules r)
 unfoldable pub receive : Device → Reader → List ℕ → List ℕ → List ℕ → Result
 receive d r input a out =
     cond (breaksRules d r) (refused BadState d r a out)
-    (cond (ltb (length a) mostGathered) (refused SmallAssembly d r a out)
-    (cond (ltb (length out) leastOutput) (refused SmallOutput d r a out)
-    (unrefused d (run (held r a) input) out)))
+    (cond (ltb (length a) maxGathered) (refused SmallAssembly d r a out)
+    (cond (ltb (length out) minOutput) (refused SmallOutput d r a out)
+    (unrefused d (run (assembling r a) input) out)))

@@ -1,6 +1,6 @@
 // The box on a serial cable: the receiving call, which joins the frame reader to the command engine.
-mod call;
+mod receiving;
 
-pub use call::Answer;
-pub use call::Received;
-pub use call::receive;
+pub use receiving::Answer;
+pub use receiving::Received;
+pub use receiving::receive;

@@ -9,11 +9,11 @@ use borrow.Author.Tests.{eqb-true, ltb-false, le-ltb}
 use lib.Dec.{eqb, ltb}
 use lib.ListN.{length}
 use Rattle.octets.proofs.LawsTests.{by-test}
-use Rattle.typestring.specs.declared.kind.Kind.{Kind}
-use Rattle.typestring.specs.declared.kind.Kind.the-variants as kind
-use Rattle.typestring.specs.Kinds.{kindOf}
+use Rattle.typestring.specs.declared.kind.ItemKind.{ItemKind}
+use Rattle.typestring.specs.declared.kind.ItemKind.the-variants as kind
+use Rattle.typestring.specs.Kind.{kindOf}
 use Rattle.typestring.specs.Grammar.{Item, Items, value, rest, struct, array, end, more, print, printItem, final, Some, ItemRules, PartRules, TypeString}
-use Rattle.typestring.specs.Parse.{Parsed, malformed, parsed, Head, no-item, one, closed, passed, inside, headed, itemOf, itemIn, joined, follow, partIn, partAt, itemAt, whole, typeOf, isType}
+use Rattle.typestring.specs.Parse.{Parsed, malformed, parsed, Head, no-item, one, endsPart, passed, inside, headed, itemOf, itemIn, joined, follow, partIn, partAt, itemAt, whole, typeOf, isType}
 use Rattle.typestring.proofs.LawsKinds.{letter-of}
 use Rattle.typestring.proofs.LawsGrammar.{bracket-shut, end-shut, item-open}
 use Rattle.typestring.proofs.LawsParse.{part-step}
@@ -28,7 +28,7 @@ none e = let z : _≡_ {A = ℕ} 0 1 = cc in absurd (omega arith)
 
 -- what a part that was found says of the octets
 abbrev PartIs : ℕ → Bool → List ℕ → Items → List ℕ → Type 0
-PartIs left a s t r = (s ≡ print t ++ r) × PartRules t left a × (closed r ≡ true)
+PartIs left a s t r = (s ≡ print t ++ r) × PartRules t left a × (endsPart r ≡ true)
 
 abbrev Brackets : ℕ → Bool → List ℕ → Items → List ℕ → Type 0
 Brackets left a s t r = (s ≡ 40 ∷ (print t ++ 41 ∷ r)) × (0 < left) × Some t × PartRules t (left - 1) a
@@ -37,14 +37,14 @@ abbrev ItemIs : ℕ → Bool → List ℕ → Item → List ℕ → Type 0
 ItemIs left a s i r = (s ≡ printItem i ++ r) × ItemRules i left a
 
 -- a closing bracket is passed behind a part that is not empty
-passing : (left : ℕ) (a : Bool) (c : ℕ) (s : List ℕ) (t : Items) (r : List ℕ) (p : Parsed) → c ≡ 40 → closed s ≡ false
+passing : (left : ℕ) (a : Bool) (c : ℕ) (s : List ℕ) (t : Items) (r : List ℕ) (p : Parsed) → c ≡ 40 → endsPart s ≡ false
     → ((u : Items) (q : List ℕ) → p ≡ parsed u q → PartIs left a s u q) → passed p ≡ parsed t r → Brackets (suc left) a (c ∷ s) t r
-unfolding passed closed print
+unfolding passed endsPart print
 passing left a c s t r malformed bracket some sound e = never e
 passing left a c s t r (parsed u []) bracket some sound e = never e
 passing left a c s t r (parsed end (d ∷ q)) bracket some sound e =
     let w = sound end (d ∷ q) refl in
-    let z : true ≡ false = sym (w .2) ∙ ap closed (sym (w .0)) ∙ some in
+    let z : true ≡ false = sym (w .2) ∙ ap endsPart (sym (w .0)) ∙ some in
     let z′ : _≡_ {A = ℕ} 0 1 = cc in absurd (omega arith)
 passing left a c s t r (parsed (more i u) (d ∷ q)) bracket some sound e =
     let w = sound (more i u) (d ∷ q) refl in
@@ -63,7 +63,7 @@ module _ (part : ℕ → Bool → List ℕ → Parsed)
   sound-inside (suc left) a (c ∷ s) t r e =
       by-test (eqb c 40)
       (λ bracket. let e₁ = rw bracket at e in
-      by-test (closed s)
+      by-test (endsPart s)
       (λ empty. never (rw empty at e₁))
       (λ some. passing left a c s t r (part left a s) (eqb-true c 40 bracket) some (λ u q. sound-part left a s u q) (rw some at e₁)))
       (λ other. never (rw other at e))
@@ -78,7 +78,7 @@ module _ (part : ℕ → Bool → List ℕ → Parsed)
       go malformed h e = none e
       go (parsed t q) h e = let same : q ≡ r = cc in (t, cc, h t r (ap (parsed t) same))
 
-  sound-kind : (left : ℕ) (a : Bool) (c : ℕ) (s : List ℕ) (i : Item) (r : List ℕ) (k : Kind) → kindOf c ≡ k → itemOf part k c left a s ≡ one i r
+  sound-kind : (left : ℕ) (a : Bool) (c : ℕ) (s : List ℕ) (i : Item) (r : List ℕ) (k : ItemKind) → kindOf c ≡ k → itemOf part k c left a s ≡ one i r
       → ItemIs left a (c ∷ s) i r
   unfolding itemOf printItem ItemRules
   sound-kind left a c s i r (kind.Value v) h e =
@@ -103,7 +103,7 @@ module _ (part : ℕ → Bool → List ℕ → Parsed)
   sound-item left a [] i r e = none e
   sound-item left a (c ∷ s) i r e = sound-kind left a c s i r (kindOf c) refl e
 
-ended : (left : ℕ) (a : Bool) (s : List ℕ) (t : Items) (r : List ℕ) → closed s ≡ true → parsed end s ≡ parsed t r → PartIs left a s t r
+ended : (left : ℕ) (a : Bool) (s : List ℕ) (t : Items) (r : List ℕ) → endsPart s ≡ true → parsed end s ≡ parsed t r → PartIs left a s t r
 unfolding print PartRules
 ended left a s t r shut e =
     let tree : end ≡ t = cc in
@@ -129,7 +129,7 @@ followed left a s t r part no-item sound item e = never e
 followed left a s t r part (one i q) sound item e =
     by-test (final i)
     (λ last. let e₁ = rw last at e in
-    by-test (closed q)
+    by-test (endsPart q)
     (λ shut. let e₂ = rw shut at e₁ in
     let w = item i q refl in
     let tree : more i end ≡ t = cc in
@@ -142,7 +142,7 @@ sound-part : (n left : ℕ) (a : Bool) (s : List ℕ) (t : Items) (r : List ℕ)
 unfolding partIn
 sound-part zero left a s t r e = never e
 sound-part (suc n) left a s t r e =
-    by-test (closed s)
+    by-test (endsPart s)
     (λ shut. ended left a s t r shut (rw shut at e))
     (λ going.
     followed left a s t r (partIn n left a) (itemIn (partIn n) left a s) (λ q u. sound-part n left a q u r)
@@ -177,7 +177,7 @@ found-inside end (suc left) a r room some rules e = absurd some
 found-inside (more i t) (suc left) a r room some rules e =
     let less : suc left - 1 ≡ left = omega arith in
     let e′ : partAt left a ((printItem i ++ print t) ++ 41 ∷ r) ≡ parsed (more i t) (41 ∷ r) = rw less at e in
-    let going : closed ((printItem i ++ print t) ++ 41 ∷ r) ≡ false =
+    let going : endsPart ((printItem i ++ print t) ++ 41 ∷ r) ≡ false =
     rw (append-assoc (printItem i) (print t) (41 ∷ r)) (item-open i (suc left - 1) a (print t ++ 41 ∷ r) (rules .0)) in
     rw (append-assoc (printItem i ++ print t) (41 ∷ []) r, going, e′)
 
@@ -190,7 +190,7 @@ mutual
   found-item (struct t) left a r k = rw (found-inside t left false r (k .0) (k .1) (k .2) (found-part t (left - 1) false (41 ∷ r) (k .2) (bracket-shut r)))
   found-item (array t) left a r k = rw (k .0, found-inside t left true r (k .1) (k .2) (k .3) (found-part t (left - 1) true (41 ∷ r) (k .3) (bracket-shut r)))
 
-  found-part : (t : Items) (left : ℕ) (a : Bool) (r : List ℕ) → PartRules t left a → closed r ≡ true → partAt left a (print t ++ r) ≡ parsed t r
+  found-part : (t : Items) (left : ℕ) (a : Bool) (r : List ℕ) → PartRules t left a → endsPart r ≡ true → partAt left a (print t ++ r) ≡ parsed t r
   found-part end left a r k shut = part-step left a r ∙ rw shut
   found-part (more i t) left a r k shut =
       let r′ = print t ++ r in

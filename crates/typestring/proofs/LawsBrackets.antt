@@ -12,15 +12,15 @@ use lib.Dec.{eqb}
 use lib.ListN.{length, getD, drop, length-append, length-drop}
 use Rattle.octets.proofs.LawsLists.{drop-next}
 use Rattle.octets.proofs.LawsTests.{by-test}
-use Rattle.typestring.specs.declared.kind.Kind.{Kind}
-use Rattle.typestring.specs.declared.kind.Kind.the-variants as kind
+use Rattle.typestring.specs.declared.kind.ItemKind.{ItemKind}
+use Rattle.typestring.specs.declared.kind.ItemKind.the-variants as kind
 use Rattle.typestring.specs.declared.kind.Value.{Value}
-use Rattle.typestring.specs.Kinds.{kindOf}
+use Rattle.typestring.specs.Kind.{kindOf}
 use Rattle.typestring.specs.Grammar.{Item, Items, value, rest, struct, array, end, more, printItem, print, ItemRules, PartRules}
 use Rattle.typestring.specs.Calls.{ItemFrom, InBrackets, EndsItem, EndsBrackets}
 use Rattle.typestring.proofs.LawsGrammar.{no-bracket}
 use Rattle.typestring.proofs.LawsPlaces.{kindIs, item-first, inner-printed}
-use Rattle.typestring.proofs.kind.Kind.{the-type as kind-type}
+use Rattle.typestring.proofs.kind.ItemKind.{the-type as kind-type}
 
 -- ---- open brackets
 
@@ -103,7 +103,7 @@ brackets-here xs at (t, b) = omega (arith, brackets-within xs at t b, past-least
 
 -- ---- items with brackets and without
 
-abbrev pub bracketed : Kind → Bool
+abbrev pub bracketed : ItemKind → Bool
 bracketed (kind.Value v) = false
 bracketed kind.Rest = false
 bracketed kind.Struct = true
@@ -111,14 +111,14 @@ bracketed kind.Array = true
 bracketed kind.Other = false
 
 -- the arms of a `match` tell which tags the kind may have
-pub tag-brackets : (k : Kind) → OneOf (2 ∷ 3 ∷ []) (tagOf kind-type k) → bracketed k ≡ true
+pub tag-brackets : (k : ItemKind) → OneOf (2 ∷ 3 ∷ []) (tagOf kind-type k) → bracketed k ≡ true
 tag-brackets (kind.Value v) o = absurd (miss (2 ∷ 3 ∷ []) 0 tt o)
 tag-brackets kind.Rest o = absurd (miss (2 ∷ 3 ∷ []) 1 tt o)
 tag-brackets kind.Struct o = refl
 tag-brackets kind.Array o = refl
 tag-brackets kind.Other o = absurd (miss (2 ∷ 3 ∷ []) 4 tt o)
 
-pub tag-single : (k : Kind) → OneOf (0 ∷ 1 ∷ 4 ∷ []) (tagOf kind-type k) → bracketed k ≡ false
+pub tag-single : (k : ItemKind) → OneOf (0 ∷ 1 ∷ 4 ∷ []) (tagOf kind-type k) → bracketed k ≡ false
 tag-single (kind.Value v) o = refl
 tag-single kind.Rest o = refl
 tag-single kind.Struct o = absurd (miss (0 ∷ 1 ∷ 4 ∷ []) 2 tt o)
@@ -152,7 +152,7 @@ module _ (xs : List ℕ) (at : ℕ) where
     simp length-append (omega arith),
   )
 
-  module _ (k : Kind) (e : k ≡ kindOf (getD xs at 0)) where
+  module _ (k : ItemKind) (e : k ≡ kindOf (getD xs at 0)) where
     -- the kind of an item at the place
     item-kind : (b : Bool) → bracketed k ≡ b → (i : Item) (depth : ℕ) → ItemFrom (drop at xs) depth i → bracketed (kindIs i) ≡ b
     item-kind b h i depth f = sym (ap bracketed (e ∙ item-first xs at depth i f .0)) ∙ h

@@ -9,13 +9,13 @@ use lib.Dec.{eqb, ltb}
 use lib.ListN.{length, getD, drop, drop-of-length-le}
 use Rattle.octets.proofs.LawsLists.{drop-next}
 use Rattle.octets.proofs.LawsTests.{by-test}
-use Rattle.typestring.specs.declared.kind.Kind.{Kind}
+use Rattle.typestring.specs.declared.kind.ItemKind.{ItemKind}
 use Rattle.typestring.specs.declared.check.Scan.{Scan}
 use Rattle.typestring.specs.declared.check.Scan.the-variants as scan
 use Rattle.typestring.specs.declared.check.Step.the-variants as step
-use Rattle.typestring.specs.Kinds.{kindOf}
+use Rattle.typestring.specs.Kind.{kindOf}
 use Rattle.typestring.specs.Grammar.{Item, Items, more, end, final}
-use Rattle.typestring.specs.Parse.{Parsed, malformed, Head, one, closed, passed, inside, headed, itemOf, itemIn, joined, follow, partAt, itemAt, whole, isType}
+use Rattle.typestring.specs.Parse.{Parsed, malformed, Head, one, endsPart, passed, inside, headed, itemOf, itemIn, joined, follow, partAt, itemAt, whole, isType}
 use Rattle.typestring.specs.Calls.{Scanned, Stepped}
 use Rattle.typestring.proofs.LawsParse.{part-step}
 
@@ -25,17 +25,17 @@ Onward types left a next at =
     (r : Scan) → Scanned types next (partAt left a (drop next types)) r → Scanned types at (partAt left a (drop at types)) r
 
 -- a part isn't closed at the string's end
-pub more-left : (types : List ℕ) (at : ℕ) → false ≡ closed (drop at types) → at < length types
-unfolding closed
+pub more-left : (types : List ℕ) (at : ℕ) → false ≡ endsPart (drop at types) → at < length types
+unfolding endsPart
 more-left types at e =
     by-test (ltb at (length types))
     (λ l. ltb-true at (length types) l)
-    (λ l. let none : false ≡ true = e ∙ ap closed (drop-of-length-le types {i = at} (ltb-false at (length types) l)) in
+    (λ l. let none : false ≡ true = e ∙ ap endsPart (drop-of-length-le types {i = at} (ltb-false at (length types) l)) in
     let z : _≡_ {A = ℕ} 0 1 = cc in absurd (omega arith))
 
 -- the brackets at an octet, where one more may be opened
 abbrev opened : ℕ → Bool → ℕ → List ℕ → Parsed
-opened left a c s = cond (eqb c 40) (cond (closed s) malformed (passed (partAt (left - 1) a s))) malformed
+opened left a c s = cond (eqb c 40) (cond (endsPart s) malformed (passed (partAt (left - 1) a s))) malformed
 
 inside-opened : (left : ℕ) (a : Bool) (c : ℕ) (s : List ℕ) → (left ≡ 0 → ⊥) → inside partAt left a (c ∷ s) ≡ opened left a c s
 unfolding inside
@@ -50,10 +50,10 @@ inside-empty (suc left) a = refl
 module _ (types : List ℕ) (left : ℕ) (a : Bool) (at : ℕ) where
   -- ---- a part
 
-  pub part-closed : at ≤ length types → true ≡ closed (drop at types) → Scanned types at (partAt left a (drop at types)) (scan.Upto at)
+  pub part-closed : at ≤ length types → true ≡ endsPart (drop at types) → Scanned types at (partAt left a (drop at types)) (scan.Upto at)
   part-closed h e = (omega arith, h, (end, part-step left a (drop at types) ∙ rw (← e)))
 
-  module _ (goes-on : false ≡ closed (drop at types)) where
+  module _ (goes-on : false ≡ endsPart (drop at types)) where
     part-open : {h : Head} → itemAt left a (drop at types) ≡ h → partAt left a (drop at types) ≡ follow (partAt left a) h
     part-open e = part-step left a (drop at types) ∙ rw (← goes-on, e)
 
@@ -61,12 +61,12 @@ module _ (types : List ℕ) (left : ℕ) (a : Bool) (at : ℕ) where
     unfolding follow
     part-bad e = part-open e
 
-    pub part-last : (next : ℕ) → Stepped types at (itemAt left a (drop at types)) (step.Last next) → true ≡ closed (drop next types)
+    pub part-last : (next : ℕ) → Stepped types at (itemAt left a (drop at types)) (step.Last next) → true ≡ endsPart (drop next types)
         → Scanned types at (partAt left a (drop at types)) (scan.Upto next)
     unfolding follow
     part-last next (l, h, (i, e, f)) c = (omega arith, h, (more i end, part-open e ∙ rw (f, ← c)))
 
-    pub part-not-last : (next : ℕ) → Stepped types at (itemAt left a (drop at types)) (step.Last next) → false ≡ closed (drop next types)
+    pub part-not-last : (next : ℕ) → Stepped types at (itemAt left a (drop at types)) (step.Last next) → false ≡ endsPart (drop next types)
         → Scanned types at (partAt left a (drop at types)) scan.Bad
     unfolding follow
     part-not-last next (l, h, (i, e, f)) c = part-open e ∙ rw (f, ← c)
@@ -78,7 +78,7 @@ module _ (types : List ℕ) (left : ℕ) (a : Bool) (at : ℕ) where
 
   -- ---- an item
 
-  pub item-at : {r k : Kind} → at < length types → r ≡ kindOf (getD types at 0) → r ≡ k
+  pub item-at : {r k : ItemKind} → at < length types → r ≡ kindOf (getD types at 0) → r ≡ k
       → itemAt left a (drop at types) ≡ itemOf partAt k (getD types at 0) left a (drop (at + 1) types)
   unfolding itemAt itemIn
   item-at h e k = rw (drop-next types at h, ← e, k)
@@ -95,10 +95,10 @@ module _ (types : List ℕ) (left : ℕ) (a : Bool) (at : ℕ) where
     pub inside-unopened : (getD types at 0 ≡ 40 → ⊥) → inside partAt left a (drop at types) ≡ malformed
     inside-unopened c = inside-at ∙ rw (ne-eqb _ _ c)
 
-    pub inside-nothing : getD types at 0 ≡ 40 → true ≡ closed (drop (at + 1) types) → inside partAt left a (drop at types) ≡ malformed
+    pub inside-nothing : getD types at 0 ≡ 40 → true ≡ endsPart (drop (at + 1) types) → inside partAt left a (drop at types) ≡ malformed
     inside-nothing c e = inside-at ∙ rw (eq-eqb _ _ c, ← e)
 
-    pub inside-some : getD types at 0 ≡ 40 → false ≡ closed (drop (at + 1) types)
+    pub inside-some : getD types at 0 ≡ 40 → false ≡ endsPart (drop (at + 1) types)
         → inside partAt left a (drop at types) ≡ passed (partAt (left - 1) a (drop (at + 1) types))
     inside-some c e = inside-at ∙ rw (eq-eqb _ _ c, ← e)
 

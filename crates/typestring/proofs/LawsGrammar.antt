@@ -6,17 +6,17 @@ use Prim.Native.Nat.{ℕ}
 use native.Mathlib.Omega.{arith}
 use borrow.Author.Tests.{ne-eqb}
 use Rattle.typestring.specs.declared.kind.Value.{Value}
-use Rattle.typestring.specs.declared.kind.Kind.the-variants as kind
-use Rattle.typestring.specs.Kinds.{kindOf}
+use Rattle.typestring.specs.declared.kind.ItemKind.the-variants as kind
+use Rattle.typestring.specs.Kind.{kindOf}
 use Rattle.typestring.specs.Grammar.{Item, Items, value, rest, struct, array, end, more, printItem, ItemRules, PartRules}
-use Rattle.typestring.specs.Parse.{closed}
+use Rattle.typestring.specs.Parse.{endsPart}
 
-pub bracket-shut : (r : List ℕ) → closed (41 ∷ r) ≡ true
-unfolding closed
+pub bracket-shut : (r : List ℕ) → endsPart (41 ∷ r) ≡ true
+unfolding endsPart
 bracket-shut r = refl
 
-pub end-shut : closed [] ≡ true
-unfolding closed
+pub end-shut : endsPart [] ≡ true
+unfolding endsPart
 end-shut = refl
 
 -- a letter is no bracket
@@ -24,8 +24,8 @@ pub no-bracket : (letter b : ℕ) (v : Value) → kindOf letter ≡ kind.Value v
 no-bracket letter b v k o e = let z : _≡_ {A = ℕ} 0 1 = cc in omega arith
 
 -- no part ends where an item stands
-pub item-open : (i : Item) (left : ℕ) (inArray : Bool) (r : List ℕ) → ItemRules i left inArray → closed (printItem i ++ r) ≡ false
-unfolding closed printItem ItemRules kindOf
+pub item-open : (i : Item) (left : ℕ) (inArray : Bool) (r : List ℕ) → ItemRules i left inArray → endsPart (printItem i ++ r) ≡ false
+unfolding endsPart printItem ItemRules kindOf
 item-open (value c v) left inArray r k = ne-eqb c 41 (no-bracket c 41 v k refl)
 item-open rest left inArray r k = refl
 item-open (struct t) left inArray r k = refl

@@ -5,11 +5,11 @@ use native.Mathlib.Omega.{arith}
 use borrow.Author.Tests.{eqb-true}
 use lib.Dec.{eqb}
 use Rattle.octets.proofs.LawsTests.{by-test}
-use Rattle.typestring.specs.declared.kind.Kind.{Kind}
-use Rattle.typestring.specs.declared.kind.Kind.the-variants as kind
+use Rattle.typestring.specs.declared.kind.ItemKind.{ItemKind}
+use Rattle.typestring.specs.declared.kind.ItemKind.the-variants as kind
 use Rattle.typestring.specs.declared.kind.Value.{Value}
 use Rattle.typestring.specs.declared.kind.Value.the-variants as value
-use Rattle.typestring.specs.Kinds.{kindOf}
+use Rattle.typestring.specs.Kind.{kindOf}
 
 -- values take octets
 abbrev pub Wide : Value → Type 0
@@ -20,7 +20,7 @@ Wide value.Text = Unit {0}
 Wide value.Counted = Unit {0}
 
 -- D, t and A are one letter each
-abbrev pub LetterOf : ℕ → Kind → Type 0
+abbrev pub LetterOf : ℕ → ItemKind → Type 0
 LetterOf c (kind.Value v) = Wide v
 LetterOf c kind.Rest = c ≡ 68
 LetterOf c kind.Struct = c ≡ 116
@@ -48,5 +48,5 @@ letter-kind c =
     by-test (eqb c 65) (λ e. rw e (eqb-true c 65 e)) (λ e. rw e (
     tt))))))))))))))))))))))))))))))))
 
-pub letter-of : (c : ℕ) (k : Kind) → kindOf c ≡ k → LetterOf c k
+pub letter-of : (c : ℕ) (k : ItemKind) → kindOf c ≡ k → LetterOf c k
 letter-of c k e = rw e at (letter-kind c)

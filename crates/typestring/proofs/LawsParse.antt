@@ -7,11 +7,11 @@ use native.Mathlib.Omega.{arith}
 use lib.Dec.{eqb}
 use lib.ListN.{length}
 use Rattle.octets.proofs.LawsTests.{by-test}
-use Rattle.typestring.specs.declared.kind.Kind.{Kind}
-use Rattle.typestring.specs.declared.kind.Kind.the-variants as kind
-use Rattle.typestring.specs.Kinds.{kindOf}
+use Rattle.typestring.specs.declared.kind.ItemKind.{ItemKind}
+use Rattle.typestring.specs.declared.kind.ItemKind.the-variants as kind
+use Rattle.typestring.specs.Kind.{kindOf}
 use Rattle.typestring.specs.Grammar.{Item, Items, struct, array, end, final}
-use Rattle.typestring.specs.Parse.{Parsed, malformed, parsed, Head, no-item, one, closed, passed, inside, headed, itemOf, itemIn, joined, follow, partIn, partAt, itemAt}
+use Rattle.typestring.specs.Parse.{Parsed, malformed, parsed, Head, no-item, one, endsPart, passed, inside, headed, itemOf, itemIn, joined, follow, partIn, partAt, itemAt}
 
 -- how a part is parsed
 abbrev Parser : Type 0
@@ -51,10 +51,10 @@ module _ (p : Parser) (most : (left : ℕ) (a : Bool) (s : List ℕ) (n : ℕ) �
   most-inside (suc left) a [] = tt
   most-inside (suc left) a (c ∷ s) =
       by-test (eqb c 40)
-      (λ e. by-test (closed s) (λ f. rw (e, f) tt) (λ f. rw (e, f) (most-passed _ (p left a s) (most left a s _ (omega arith)))))
+      (λ e. by-test (endsPart s) (λ f. rw (e, f) tt) (λ f. rw (e, f) (most-passed _ (p left a s) (most left a s _ (omega arith)))))
       (λ e. rw e tt)
 
-  fewer-item-of : (k : Kind) (letter left : ℕ) (a : Bool) (s : List ℕ) (n : ℕ) → length s < n → Fewer n (itemOf p k letter left a s)
+  fewer-item-of : (k : ItemKind) (letter left : ℕ) (a : Bool) (s : List ℕ) (n : ℕ) → length s < n → Fewer n (itemOf p k letter left a s)
   unfolding itemOf
   fewer-item-of (kind.Value v) letter left a s n h = h
   fewer-item-of kind.Rest letter left true s n h = tt
@@ -74,7 +74,7 @@ module _ (p : Parser) (most : (left : ℕ) (a : Bool) (s : List ℕ) (n : ℕ) �
   most-follow left a n no-item l = tt
   most-follow left a n (one i r) l =
       by-test (final i)
-      (λ e. by-test (closed r) (λ f. rw (e, f) (omega arith)) (λ f. rw (e, f) tt))
+      (λ e. by-test (endsPart r) (λ f. rw (e, f) (omega arith)) (λ f. rw (e, f) tt))
       (λ e. rw e (most-joined i n (p left a r) (most left a r n (omega arith))))
 
 most-part : (m left : ℕ) (a : Bool) (s : List ℕ) (n : ℕ) → length s ≤ n → Most n (partIn m left a s)
@@ -82,7 +82,7 @@ unfolding partIn
 most-part zero left a s n h = tt
 most-part (suc m) left a s n h =
     let most = most-part m in
-    by-test (closed s)
+    by-test (endsPart s)
     (λ e. rw e h)
     (λ e. rw e (most-follow (partIn m) most left a n (itemIn (partIn m) left a s) (fewer-item (partIn m) most left a s n h)))
 
@@ -96,7 +96,7 @@ module _ (p q : Parser) (n : ℕ) (same : (left : ℕ) (a : Bool) (s : List ℕ)
   inside-same (suc left) a [] h = refl
   inside-same (suc left) a (c ∷ s) h = rw (same left a s (omega arith))
 
-  item-of-same : (k : Kind) (letter left : ℕ) (a : Bool) (s : List ℕ) → length s ≤ n → itemOf p k letter left a s ≡ itemOf q k letter left a s
+  item-of-same : (k : ItemKind) (letter left : ℕ) (a : Bool) (s : List ℕ) → length s ≤ n → itemOf p k letter left a s ≡ itemOf q k letter left a s
   unfolding itemOf
   item-of-same (kind.Value v) letter left a s h = refl
   item-of-same kind.Rest letter left a s h = refl
@@ -124,7 +124,7 @@ unfolding partIn
 part-enough zero n left a s h l = absurd (omega arith)
 part-enough (suc m) zero left a s h l = absurd (omega arith)
 part-enough (suc m) (suc n) left a s h l =
-    ap (cond (closed s) (parsed end s))
+    ap (cond (endsPart s) (parsed end s))
     (step-same (partIn m) (partIn n) (length s)
     (λ left a r k. part-enough m n left a r (omega arith) (omega arith))
     left a s (omega arith) (fewer-item (partIn n) (most-part n) left a s _ (omega arith)))
@@ -135,10 +135,10 @@ most-at : (left : ℕ) (a : Bool) (s : List ℕ) (n : ℕ) → length s ≤ n �
 unfolding partAt
 most-at left a s n h = most-part (suc (length s)) left a s n h
 
-pub part-step : (left : ℕ) (a : Bool) (s : List ℕ) → partAt left a s ≡ cond (closed s) (parsed end s) (follow (partAt left a) (itemAt left a s))
+pub part-step : (left : ℕ) (a : Bool) (s : List ℕ) → partAt left a s ≡ cond (endsPart s) (parsed end s) (follow (partAt left a) (itemAt left a s))
 unfolding partIn partAt itemAt
 part-step left a s =
-    ap (cond (closed s) (parsed end s))
+    ap (cond (endsPart s) (parsed end s))
     (step-same (partIn (length s)) partAt (length s)
     (λ left a r k. part-enough (length s) (suc (length r)) left a r k (omega arith))
     left a s (omega arith) (fewer-item partAt most-at left a s _ (omega arith)))

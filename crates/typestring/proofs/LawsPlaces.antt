@@ -7,28 +7,28 @@ use native.Mathlib.Omega.{arith}
 use lib.ListN.{length, getD, drop, length-append, length-drop}
 use lib.Seq.{drop-append-seam, drop-drop}
 use Rattle.octets.proofs.LawsLists.{front}
-use Rattle.typestring.specs.declared.kind.Kind.{Kind}
-use Rattle.typestring.specs.declared.kind.Kind.the-variants as kind
+use Rattle.typestring.specs.declared.kind.ItemKind.{ItemKind}
+use Rattle.typestring.specs.declared.kind.ItemKind.the-variants as kind
 use Rattle.typestring.specs.declared.kind.Value.{Value}
-use Rattle.typestring.specs.Kinds.{kindOf}
+use Rattle.typestring.specs.Kind.{kindOf}
 use Rattle.typestring.specs.Grammar.{Item, Items, value, rest, struct, array, end, more, print, printItem, Some, ItemRules, PartRules}
-use Rattle.typestring.specs.Parse.{closed}
+use Rattle.typestring.specs.Parse.{endsPart}
 use Rattle.typestring.specs.Calls.{PartFrom, ItemFrom}
 use Rattle.typestring.proofs.LawsGrammar.{item-open, relax, bracket-shut}
 
 -- ---- parts
 
 -- where a part ends it has no items
-pub part-ended : (s : List ℕ) (depth : ℕ) (t : Items) → closed s ≡ true → PartFrom s depth t → t ≡ end
+pub part-ended : (s : List ℕ) (depth : ℕ) (t : Items) → endsPart s ≡ true → PartFrom s depth t → t ≡ end
 unfolding print PartRules
 part-ended s depth end shut w = refl
 part-ended s depth (more i t) shut w =
     let e : s ≡ printItem i ++ (print t ++ w .behind) = w .printed ∙ append-assoc (printItem i) (print t) (w .behind) in
-    let going : closed s ≡ false = rw e (item-open i depth false (print t ++ w .behind) (w .rules .0)) in
+    let going : endsPart s ≡ false = rw e (item-open i depth false (print t ++ w .behind) (w .rules .0)) in
     let z : _≡_ {A = ℕ} 0 1 = cc in absurd (omega arith)
 
 -- elsewhere it has an item, and what is left of the part behind it
-pub part-item : (s : List ℕ) (depth : ℕ) (t : Items) → closed s ≡ false → PartFrom s depth t
+pub part-item : (s : List ℕ) (depth : ℕ) (t : Items) → endsPart s ≡ false → PartFrom s depth t
     → (i : Item) × (u : Items) × (t ≡ more i u) × ItemFrom s depth i × PartFrom (drop (length (printItem i)) s) depth u
 unfolding print PartRules
 part-item s depth end going w = let z : _≡_ {A = ℕ} 0 1 = cc (w .printed, w .ends) in absurd (omega arith)
@@ -42,7 +42,7 @@ part-item s depth (more i u) going w =
     )
 
 -- an item's kind
-abbrev pub kindIs : Item → Kind
+abbrev pub kindIs : Item → ItemKind
 kindIs (value c v) = kind.Value v
 kindIs rest = kind.Rest
 kindIs (struct t) = kind.Struct
@@ -109,7 +109,7 @@ item-place types at depth i w =
 
 module _ (types : List ℕ) (at depth : ℕ) where
   -- a letter of one kind stands at no item of another
-  unlike : {P : Type 0} (i : Item) (j : Kind) → ItemFrom (drop at types) depth i → kindOf (getD types at 0) ≡ j → (kindIs i ≡ j → _≡_ {A = ℕ} 0 1) → P
+  unlike : {P : Type 0} (i : Item) (j : ItemKind) → ItemFrom (drop at types) depth i → kindOf (getD types at 0) ≡ j → (kindIs i ≡ j → _≡_ {A = ℕ} 0 1) → P
   unlike i j w e clash = absurd (omega (arith, clash (sym (item-first types at depth i w .0) ∙ e)))
 
   pub is-struct : (i : Item) → ItemFrom (drop at types) depth i → kindOf (getD types at 0) ≡ kind.Struct → (t : Items) × (i ≡ struct t)

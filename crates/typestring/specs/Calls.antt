@@ -9,7 +9,7 @@ use Rattle.typestring.specs.declared.check.Scan.the-variants as scan
 use Rattle.typestring.specs.declared.check.Step.{Step}
 use Rattle.typestring.specs.declared.check.Step.the-variants as step
 use Rattle.typestring.specs.Grammar.{Item, Items, print, printItem, final, ItemRules, PartRules}
-use Rattle.typestring.specs.Parse.{Parsed, malformed, parsed, Head, no-item, one, closed}
+use Rattle.typestring.specs.Parse.{Parsed, malformed, parsed, Head, no-item, one, endsPart}
 
 -- ---- the check
 
@@ -31,7 +31,7 @@ pub record PartFrom (s : List ℕ) (depth : ℕ) (t : Items) : Type 0 where
   pub behind : List ℕ
   pub printed : s ≡ print t ++ behind
   pub rules : PartRules t depth false
-  pub ends : closed behind ≡ true
+  pub ends : endsPart behind ≡ true
 
 -- an item's tree is printed at the front of a string
 pub record ItemFrom (s : List ℕ) (depth : ℕ) (i : Item) : Type 0 where

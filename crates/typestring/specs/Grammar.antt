@@ -5,8 +5,8 @@ use mathlib.Core.Path.{_≡_}
 use Prim.Native.Nat.{ℕ, _-_, _<_, _≤_}
 use lib.ListN.{length}
 use Rattle.typestring.specs.declared.kind.Value.{Value}
-use Rattle.typestring.specs.declared.kind.Kind.the-variants as kind
-use Rattle.typestring.specs.Kinds.{kindOf}
+use Rattle.typestring.specs.declared.kind.ItemKind.the-variants as kind
+use Rattle.typestring.specs.Kind.{kindOf}
 
 mutual
   -- a letter with what it stands for, D, t(..) or A(..)
@@ -62,15 +62,15 @@ unfoldable mutual
   PartRules (more i t) left inArray = ItemRules i left inArray × (final i ≡ true → t ≡ end) × PartRules t left inArray
 
 -- "at most four are open at once"
-abbrev pub mostOpen : ℕ
-mostOpen = 4
+abbrev pub maxOpen : ℕ
+maxOpen = 4
 
 -- "A string has at most 64 octets"
-abbrev pub mostOctets : ℕ
-mostOctets = 64
+abbrev pub maxOctets : ℕ
+maxOctets = 64
 
 -- a string of the grammar, with its tree
 pub record TypeString (types : List ℕ) (tree : Items) : Type 0 where
   pub printed : print tree ≡ types
-  pub rules : PartRules tree mostOpen false
-  pub short : length types ≤ mostOctets
+  pub rules : PartRules tree maxOpen false
+  pub short : length types ≤ maxOctets

@@ -1,4 +1,4 @@
-pub mod Kinds
+pub mod Kind
 pub mod Grammar
 pub mod Parse
 pub mod Calls

@@ -1,5 +1,5 @@
 // Where the items of a well-formed type string end.
-use crate::kind::Kind;
+use crate::kind::ItemKind;
 use crate::kind::kind_of;
 ghost use Prim.Native.Nat.{ℕ};
 ghost use lib.ListN.{drop};
@@ -12,7 +12,7 @@ pub fn item_end(types: &[u8], at: usize) -> usize
     ensures { λ r. ⌜ EndsItem (drop at (now (types .entry))) at r ⌝ }
 {
     match kind_of(types[at]) {
-        Kind::Struct | Kind::Array => bracket_end(types, at + 2),
+        ItemKind::Struct | ItemKind::Array => bracket_end(types, at + 2),
         _ => at + 1,
     }
 }

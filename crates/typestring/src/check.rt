@@ -1,6 +1,6 @@
 // Whether a type string is well-formed. A part is the whole string or what stands in a pair of brackets; `depth` is how many brackets
 // more may be opened, and `in_array` tells a part that stands directly inside A(..).
-use crate::kind::Kind;
+use crate::kind::ItemKind;
 use crate::kind::kind_of;
 ghost use mathlib.Core.Path.{_≡_};
 ghost use mathlib.Core.Bool.{false};
@@ -9,9 +9,9 @@ ghost use lib.ListN.{length, drop};
 ghost use Rattle.typestring.specs.Parse as parse;
 ghost use Rattle.typestring.specs.Calls.{Scanned, Stepped};
 
-const MOST_OCTETS: usize = 64;
+const MAX_OCTETS: usize = 64;
 
-pub const MOST_OPEN: usize = 4;
+pub const MAX_OPEN: usize = 4;
 
 // Where a part ends.
 pub enum Scan {
@@ -29,19 +29,19 @@ pub enum Step {
 pub fn is_type(types: &[u8]) -> bool
     ensures { λ r. ⌜ r ≡ parse.isType (parse.typeOf (now (types .entry))) ⌝ }
 {
-    if MOST_OCTETS < types.len() {
+    if MAX_OCTETS < types.len() {
         return false;
     }
-    match check_sequence(types, 0, MOST_OPEN, false) {
+    match check_sequence(types, 0, MAX_OPEN, false) {
         Scan::Bad => false,
         Scan::Upto(end) => end == types.len(),
     }
 }
 
 // Whether a part ends at a place: there is a closing bracket, or the string's end.
-pub fn closed(types: &[u8], at: usize) -> bool
+pub fn ends_part(types: &[u8], at: usize) -> bool
     requires { ⌜ at ≤ length (now types) ⌝ }
-    ensures { λ r. ⌜ r ≡ parse.closed (drop at (now (types .entry))) ⌝ }
+    ensures { λ r. ⌜ r ≡ parse.endsPart (drop at (now (types .entry))) ⌝ }
 {
     if at == types.len() {
         return true;
@@ -55,7 +55,7 @@ fn check_sequence(types: &[u8], at: usize, depth: usize, in_array: bool) -> Scan
 {
     let mut next = at;
     loop {
-        if closed(types, next) {
+        if ends_part(types, next) {
             return Scan::Upto(next);
         }
         match check_item(types, next, depth, in_array) {
@@ -63,7 +63,7 @@ fn check_sequence(types: &[u8], at: usize, depth: usize, in_array: bool) -> Scan
                 return Scan::Bad;
             }
             Step::Last(end) => {
-                if closed(types, end) {
+                if ends_part(types, end) {
                     return Scan::Upto(end);
                 }
                 return Scan::Bad;
@@ -81,18 +81,18 @@ fn check_item(types: &[u8], at: usize, depth: usize, in_array: bool) -> Step
 {
     let after = at + 1;
     match kind_of(types[at]) {
-        Kind::Value(_) => Step::Next(after),
-        Kind::Rest => {
+        ItemKind::Value(_) => Step::Next(after),
+        ItemKind::Rest => {
             if in_array {
                 return Step::Bad;
             }
             Step::Last(after)
         }
-        Kind::Struct => match check_inside(types, after, depth, false) {
+        ItemKind::Struct => match check_inside(types, after, depth, false) {
             Scan::Bad => Step::Bad,
             Scan::Upto(end) => Step::Next(end),
         },
-        Kind::Array => {
+        ItemKind::Array => {
             if in_array {
                 return Step::Bad;
             }
@@ -101,7 +101,7 @@ fn check_item(types: &[u8], at: usize, depth: usize, in_array: bool) -> Step
                 Scan::Upto(end) => Step::Last(end),
             }
         }
-        Kind::Other => Step::Bad,
+        ItemKind::Other => Step::Bad,
     }
 }
 
@@ -120,7 +120,7 @@ fn check_inside(types: &[u8], at: usize, depth: usize, in_array: bool) -> Scan
         return Scan::Bad;
     }
     let first = at + 1;
-    if closed(types, first) {
+    if ends_part(types, first) {
         return Scan::Bad;
     }
     match check_sequence(types, first, depth - 1, in_array) {

@@ -1,6 +1,6 @@
 // The letters of type strings.
 ghost use mathlib.Core.Path.{_≡_};
-ghost use Rattle.typestring.specs.Kinds.{kindOf};
+ghost use Rattle.typestring.specs.Kind.{kindOf};
 
 // How a value that other items may follow stands in a payload.
 pub enum Value {
@@ -16,7 +16,7 @@ pub enum Value {
     Counted,
 }
 
-pub enum Kind {
+pub enum ItemKind {
     Value(Value),
     // D: the octets up to the end of the part.
     Rest,
@@ -28,23 +28,23 @@ pub enum Kind {
     Other,
 }
 
-pub fn kind_of(octet: u8) -> Kind
+pub fn kind_of(octet: u8) -> ItemKind
     ensures { λ r. ⌜ r ≡ kindOf octet ⌝ }
 {
     match octet {
-        b'b' => Kind::Value(Value::Bool),
-        b'C' | b'c' => Kind::Value(Value::Fixed(1)),
-        b'S' | b's' => Kind::Value(Value::Fixed(2)),
-        b'L' | b'l' => Kind::Value(Value::Fixed(4)),
-        b'e' => Kind::Value(Value::Fixed(6)),
-        b'E' => Kind::Value(Value::Fixed(8)),
-        b'6' => Kind::Value(Value::Fixed(16)),
-        b'i' => Kind::Value(Value::Packed),
-        b'U' => Kind::Value(Value::Text),
-        b'd' => Kind::Value(Value::Counted),
-        b'D' => Kind::Rest,
-        b't' => Kind::Struct,
-        b'A' => Kind::Array,
-        _ => Kind::Other,
+        b'b' => ItemKind::Value(Value::Bool),
+        b'C' | b'c' => ItemKind::Value(Value::Fixed(1)),
+        b'S' | b's' => ItemKind::Value(Value::Fixed(2)),
+        b'L' | b'l' => ItemKind::Value(Value::Fixed(4)),
+        b'e' => ItemKind::Value(Value::Fixed(6)),
+        b'E' => ItemKind::Value(Value::Fixed(8)),
+        b'6' => ItemKind::Value(Value::Fixed(16)),
+        b'i' => ItemKind::Value(Value::Packed),
+        b'U' => ItemKind::Value(Value::Text),
+        b'd' => ItemKind::Value(Value::Counted),
+        b'D' => ItemKind::Rest,
+        b't' => ItemKind::Struct,
+        b'A' => ItemKind::Array,
+        _ => ItemKind::Other,
     }
 }

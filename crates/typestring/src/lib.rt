@@ -4,9 +4,9 @@ mod check;
 mod kind;
 
 pub use brackets::item_end;
-pub use check::MOST_OPEN;
-pub use check::closed;
+pub use check::MAX_OPEN;
+pub use check::ends_part;
 pub use check::is_type;
-pub use kind::Kind;
+pub use kind::ItemKind;
 pub use kind::Value;
 pub use kind::kind_of;

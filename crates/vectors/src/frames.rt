@@ -38,7 +38,7 @@ pub fn framed(body: &[u8], out: &mut [u8]) -> usize {
     if body.len() < 2 {
         return 0;
     }
-    if Reader::MOST_BODY < body.len() {
+    if Reader::MAX_BODY < body.len() {
         return 0;
     }
     if out.len() < 2 * body.len() + 6 {

@@ -118,7 +118,7 @@ fn feed(reader: Reader, chunk: &[u8], assembly: &mut [u8]) -> Reader {
 // One call, where reader and buffer are such as it takes.
 fn offer(reader: Reader, chunk: &[u8], assembly: &mut [u8]) -> Reading {
     if reader.keeps_rules() {
-        if Reader::MOST_GATHERED <= assembly.len() {
+        if Reader::MAX_GATHERED <= assembly.len() {
             return read_frame(reader, chunk, assembly);
         }
     }

@@ -4,7 +4,7 @@ use native.Mathlib.Omega.{arith}
 use borrow.Author.Needs.{needs}
 use borrow.Author.Tests.{le-ltb}
 use Rattle.reply.proofs.LawsReplies.{replied-size}
-use Rattle.command.specs.Decide.{replying, decisionOf}
+use Rattle.command.specs.Decision.{replying, decisionOf}
 use Rattle.command.proofs.decision.conclude.Statement.{statement}
 use Rattle.command.proofs.decision.conclude.Tie as tie
 

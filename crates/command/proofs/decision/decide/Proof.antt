@@ -4,7 +4,7 @@ use native.Mathlib.Omega.{arith}
 use borrow.Author.Needs.{needs}
 use Rattle.octets.proofs.LawsLists.{take-rest}
 use Rattle.request.proofs.LawsVerdict.{verdict-reach, payload-start}
-use Rattle.command.specs.Decide.{decisionOf, judgedBy, judged, decide}
+use Rattle.command.specs.Decision.{decisionOf, judgedBy, judged, decide}
 use Rattle.command.proofs.decision.decide.Statement.{statement}
 use Rattle.command.proofs.decision.decide.Tie as tie
 

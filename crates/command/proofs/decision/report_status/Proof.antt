@@ -1,12 +1,12 @@
 -- The link is the one given, with another status.
 use mathlib.Core.Path.{refl}
 use borrow.Author.Needs.{needs}
-use Rattle.command.specs.Decide.{reported}
+use Rattle.command.specs.Decision.{statusDecision}
 use Rattle.command.proofs.decision.report_status.Statement.{statement}
 use Rattle.command.proofs.decision.report_status.Tie as tie
 
 pub report-status-spec : {M : Type 1} → statement M
-unfolding reported
+unfolding statusDecision
 report-status-spec =
     tie.close
     (tie.spec

@@ -5,7 +5,7 @@ use native.Mathlib.Omega.{arith}
 use borrow.Author.Needs.{needs}
 use borrow.Author.Tests.{le-leb, lt-leb}
 use lib.ListN.{getD, List·getD-eq-default}
-use Rattle.datatype.specs.Leaves.{boolAt}
+use Rattle.datatype.specs.Leaf.{boolAt}
 use Rattle.datatype.proofs.leaf.bool_at.Statement.{statement}
 use Rattle.datatype.proofs.leaf.bool_at.Tie as tie
 

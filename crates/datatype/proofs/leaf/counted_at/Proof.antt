@@ -1,7 +1,7 @@
 -- The tests are those of `countedAt`.
 use borrow.Author.Needs.{needs}
 use borrow.Author.Tests.{lt-ltb, le-ltb}
-use Rattle.datatype.specs.Leaves.{countedAt}
+use Rattle.datatype.specs.Leaf.{countedAt}
 use Rattle.datatype.proofs.leaf.counted_at.Statement.{statement}
 use Rattle.datatype.proofs.leaf.counted_at.Tie as tie
 

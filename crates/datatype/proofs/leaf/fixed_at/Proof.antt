@@ -1,7 +1,7 @@
 -- The test is that of `fixedAt`.
 use borrow.Author.Needs.{needs}
 use borrow.Author.Tests.{lt-ltb, le-ltb}
-use Rattle.datatype.specs.Leaves.{fixedAt}
+use Rattle.datatype.specs.Leaf.{fixedAt}
 use Rattle.datatype.proofs.leaf.fixed_at.Statement.{statement}
 use Rattle.datatype.proofs.leaf.fixed_at.Tie as tie
 

@@ -3,7 +3,7 @@ use mathlib.Core.Path.{sym, _∙_}
 use native.Mathlib.Omega.{arith}
 use borrow.Author.Needs.{needs}
 use Rattle.packed.proofs.OneSpelling.{place-after}
-use Rattle.datatype.specs.Leaves.{numberSpan}
+use Rattle.datatype.specs.Leaf.{numberSpan}
 use Rattle.datatype.proofs.leaf.packed_at.Statement.{statement}
 use Rattle.datatype.proofs.leaf.packed_at.Tie as tie
 

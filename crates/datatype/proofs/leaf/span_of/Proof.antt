@@ -1,6 +1,6 @@
 -- Each arm is a clause of `spanOf`.
 use borrow.Author.Needs.{needs}
-use Rattle.datatype.specs.Leaves.{spanOf}
+use Rattle.datatype.specs.Leaf.{spanOf}
 use Rattle.datatype.proofs.leaf.span_of.Statement.{statement}
 use Rattle.datatype.proofs.leaf.span_of.Tie as tie
 

@@ -5,7 +5,7 @@ use native.Mathlib.Omega.{arith}
 use borrow.Author.Needs.{needs}
 use borrow.Author.Tests.{lt-ltb, le-ltb}
 use Rattle.datatype.specs.declared.leaf.Span.the-variants.{At}
-use Rattle.datatype.specs.Leaves.{textAt}
+use Rattle.datatype.specs.Leaf.{textAt}
 use Rattle.datatype.proofs.leaf.text_at.Statement.{statement}
 use Rattle.datatype.proofs.leaf.text_at.Tie as tie
 

@@ -8,7 +8,7 @@ use lib.Dec.{eqb}
 use lib.ListN.{getD}
 use Rattle.octets.specs.Scanning.{allFrom, allBelow}
 use Rattle.octets.proofs.LawsScanning.{scan-on, scan-stop, scan-end}
-use Rattle.property.specs.Numbers.{numberAt}
+use Rattle.property.specs.Number.{numberAt}
 use Rattle.device.specs.Rules.{atDefaults}
 use Rattle.device.proofs.rules.are_defaults.Statement.{statement}
 use Rattle.device.proofs.rules.are_defaults.Tie as tie

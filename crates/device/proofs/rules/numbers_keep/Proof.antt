@@ -6,7 +6,7 @@ use native.Mathlib.Omega.{arith}
 use lib.ListN.{getD}
 use Rattle.octets.specs.Scanning.{allFrom, allBelow}
 use Rattle.octets.proofs.LawsScanning.{scan-on, scan-stop, scan-end}
-use Rattle.property.specs.Numbers.{numberAt, within}
+use Rattle.property.specs.Number.{numberAt, within}
 use Rattle.device.specs.Rules.{inRange}
 use Rattle.device.proofs.rules.numbers_keep.Statement.{statement}
 use Rattle.device.proofs.rules.numbers_keep.Tie as tie

@@ -2,7 +2,7 @@
 use mathlib.Core.Logic.{inl, inr, ⊎-elim}
 use mathlib.Core.Path.{sym, ap}
 use borrow.Author.Tests.{ne-eqb}
-use Rattle.frame.specs.Kinds.{isFlag, isEscape, isSkipped, kindOf}
+use Rattle.frame.specs.Kind.{isFlag, isEscape, isSkipped, kindOf}
 use Rattle.frame.proofs.kind.kind_of.Statement.{statement}
 use Rattle.frame.proofs.kind.kind_of.Tie as tie
 

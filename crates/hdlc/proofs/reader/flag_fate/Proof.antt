@@ -4,7 +4,7 @@ use native.Mathlib.Omega.{arith}
 use borrow.Author.Tests.{eq-eqb, ne-eqb}
 use borrow.Author.Needs.{needs}
 use lib.Seq.{length-take-le}
-use Rattle.hdlc.specs.Reading.{flagFate}
+use Rattle.hdlc.specs.Reader.{flagFate}
 use Rattle.hdlc.proofs.reader.flag_fate.Statement.{statement}
 use Rattle.hdlc.proofs.reader.flag_fate.Tie as tie
 

@@ -1,6 +1,6 @@
 -- Each way out has the test that `gather` makes.
 use borrow.Author.Tests.{lt-ltb, le-ltb}
-use Rattle.hdlc.specs.Reading.{gather}
+use Rattle.hdlc.specs.Reader.{gather}
 use borrow.Author.Needs.{needs}
 use Rattle.hdlc.proofs.reader.gather_octet.Statement.{statement}
 use Rattle.hdlc.proofs.reader.gather_octet.Tie as tie

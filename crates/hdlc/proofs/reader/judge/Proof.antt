@@ -10,13 +10,13 @@ use lib.ListN.{length, getD}
 use lib.Seq.{length-take-le}
 use Rattle.frame.specs.Fcs.{fcs}
 use Rattle.hdlc.specs.declared.reader.Fate.the-variants.{Checked, BadHeader}
-use Rattle.hdlc.specs.Reading.{bodyOf, checkOf, judged}
+use Rattle.hdlc.specs.Reader.{bodyOf, checkOf, frameFate}
 use Rattle.hdlc.proofs.LawsFates.{headed-gathered}
 use Rattle.hdlc.proofs.reader.judge.Statement.{statement}
 use Rattle.hdlc.proofs.reader.judge.Tie as tie
 
 returns : tie.Need-returns
-unfolding judged
+unfolding frameFate
 returns c = rw (lt-ltb _ _ (c .if1 .taken))
 
 sub-body : tie.Need-sub-body
@@ -41,7 +41,7 @@ unfolding checkOf bodyOf
 same-test c = sym (ap₂ eqb (c .before .before .read-le .ensures) (c .fcs16 .ensures))
 
 returns-2 : tie.Need-returns-2
-unfolding judged
+unfolding frameFate
 returns-2 c =
     let known = c .before in
     rw (
@@ -52,8 +52,8 @@ returns-2 c =
 
 -- where the check is right, the header decides
 right-check : (c : tie.Else2) → let g = c .before .before .before .before .before .before .args .gathered .now in
-    judged g ≡ cond (eqb (getD g 0 0 / 64) 2) (Checked (length g - 2)) BadHeader
-unfolding judged
+    frameFate g ≡ cond (eqb (getD g 0 0 / 64) 2) (Checked (length g - 2)) BadHeader
+unfolding frameFate
 right-check c =
     let known = c .before in
     let long = known .before .before .before .if1 .left in

@@ -5,7 +5,7 @@ use Prim.Native.Nat.{_-_, _≤_}
 use native.Mathlib.Omega.{arith}
 use borrow.Author.Needs.{needs}
 use lib.ListN.{length, getD, drop}
-use Rattle.hdlc.specs.Reading.{held, later, run}
+use Rattle.hdlc.specs.Reader.{assembling, later, run}
 use Rattle.hdlc.specs.Rules.{rules}
 use Rattle.hdlc.proofs.LawsReading.{later-zero, run-end, run-next, run-decided}
 use Rattle.hdlc.proofs.ReaderRules.{rules-told, after-rules}
@@ -15,7 +15,7 @@ use Rattle.hdlc.proofs.reader.read_frame.Tie as tie
 abbrev Inv-loop : tie.InvT-loop
 Inv-loop input assembly₀ reader₀ at₀ assembly reader at =
     (at ≤ length input) × (length assembly ≡ length assembly₀) × (rules reader ≡ true)
-    × (later at (run (held reader assembly) (drop at input)) ≡ run (held reader₀ assembly₀) input)
+    × (later at (run (assembling reader assembly) (drop at input)) ≡ run (assembling reader₀ assembly₀) input)
 
 abbrev μ-loop : tie.MeasureT-loop
 μ-loop input assembly₀ reader₀ at₀ assembly reader at = length input - at
@@ -44,7 +44,7 @@ loop-again c =
     let at-loop = c .before .before .before .before .before .before .before .before .before in
     let w = at-loop .loop in
     let input = at-loop .before .before .before .args .input .now in
-    let h = held (w .reader) (w .assembly) in (
+    let h = assembling (w .reader) (w .assembly) in (
       omega arith,
       step .kept .1 .1 .0 ∙ w .inv .1,
       ap (λ g. rules (g .reader)) (step .ensures .1) ∙ after-rules h (getD input (w .at) 0) (omega arith) (w .inv .2),
@@ -72,7 +72,7 @@ returns-2 c =
     let w = at-loop .loop in
     let input = at-loop .before .before .before .args .input .now in
     sym
-    (run-decided (held (w .reader) (w .assembly)) input (w .at) (omega arith) (step .ensures .0) (step .ensures .1)
+    (run-decided (assembling (w .reader) (w .assembly)) input (w .at) (omega arith) (step .ensures .0) (step .ensures .1)
     (sym (c .before .decides .ensures) ∙ c .if2 .taken))
     ∙ w .inv .3
 

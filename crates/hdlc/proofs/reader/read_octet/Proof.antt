@@ -2,7 +2,7 @@
 use mathlib.Core.Path.{sym, _∙_}
 use borrow.Author.Needs.{needs}
 use Rattle.frame.proofs.LawsKinds.{kind-tests}
-use Rattle.hdlc.specs.Reading.{after, fateAt}
+use Rattle.hdlc.specs.Reader.{afterOctet, fateAt}
 use Rattle.hdlc.proofs.reader.read_octet.Statement.{statement}
 use Rattle.hdlc.proofs.reader.read_octet.Tie as tie
 
@@ -22,7 +22,7 @@ same-length : tie.Need-same-length
 same-length c = search needs
 
 returns : tie.Need-returns
-unfolding fateAt after
+unfolding fateAt afterOctet
 returns c =
     let told = c .before .before .before in
     let t = kind-tests _ (sym (told .enum-told .given .1) ∙ told .before .before .kind-of .ensures) in
@@ -32,7 +32,7 @@ enum-told-2 : tie.Need-enum-told-2
 enum-told-2 c = search needs
 
 returns-2 : tie.Need-returns-2
-unfolding fateAt after
+unfolding fateAt afterOctet
 returns-2 c =
     let t = kind-tests _ (sym (c .enum-told2 .given .1) ∙ c .before .before .kind-of .ensures) in
     (rw (t .flag), rw (t .flag, t .skipped))
@@ -47,7 +47,7 @@ same-length-2 : tie.Need-same-length-2
 same-length-2 c = search needs
 
 returns-3 : tie.Need-returns-3
-unfolding fateAt after
+unfolding fateAt afterOctet
 returns-3 c =
     let told = c .before .before .before .before in
     let t = kind-tests _ (sym (told .enum-told3 .given .1) ∙ told .before .before .kind-of .ensures) in
@@ -63,7 +63,7 @@ same-length-3 : tie.Need-same-length-3
 same-length-3 c = search needs
 
 returns-4 : tie.Need-returns-4
-unfolding fateAt after
+unfolding fateAt afterOctet
 returns-4 c =
     let told = c .before .before .before .before in
     let t = kind-tests _ (sym (told .enum-told4 .given .1) ∙ told .before .before .kind-of .ensures) in

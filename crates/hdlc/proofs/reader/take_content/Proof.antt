@@ -1,12 +1,12 @@
 -- Each way out has the tests that `content` makes.
 use mathlib.Core.Path.{_∙_}
-use Rattle.hdlc.specs.Reading.{content}
+use Rattle.hdlc.specs.Reader.{afterContent}
 use borrow.Author.Needs.{needs}
 use Rattle.hdlc.proofs.reader.take_content.Statement.{statement}
 use Rattle.hdlc.proofs.reader.take_content.Tie as tie
 
 returns : tie.Need-returns
-unfolding content
+unfolding afterContent
 returns c = simp (c .if1 .taken)
 
 gather-octet-requires : tie.Need-gather-octet-requires
@@ -16,7 +16,7 @@ same-length : tie.Need-same-length
 same-length c = search needs
 
 returns-2 : tie.Need-returns-2
-unfolding content
+unfolding afterContent
 returns-2 c =
     let t = c .before .before .before .before in
     c .before .before .gather-octet .ensures ∙ rw (t .before .if1 .left, t .if2 .taken)
@@ -25,7 +25,7 @@ gathering-requires : tie.Need-gathering-requires
 gathering-requires c κs = search needs
 
 returns-3 : tie.Need-returns-3
-unfolding content
+unfolding afterContent
 returns-3 c = rw (c .gathering .ensures, c .before .before .before .if1 .left, c .before .before .if2 .left, c .before .if3 .taken)
 
 gather-octet-requires-2 : tie.Need-gather-octet-requires-2
@@ -35,7 +35,7 @@ same-length-2 : tie.Need-same-length-2
 same-length-2 c = search needs
 
 returns-4 : tie.Need-returns-4
-unfolding content
+unfolding afterContent
 returns-4 c =
     let t = c .before .before .before .before in
     c .before .before .gather-octet2 .ensures ∙ rw (t .before .before .if1 .left, t .before .if2 .left, t .if3 .left)

@@ -19,8 +19,8 @@ missing c =
     let no = port-missing _ _ _ _ two (d .before .before .read-le .ensures) (d .find-port .ensures) (ports-even _ (start .pre)) (omega arith) in
     rw (eq-eqb _ _ two, no, c .refused2 .ensures)
 
-closed-requires : tie.Need-closed-requires
-closed-requires c κs =
+close-gap-requires : tie.Need-close-gap-requires
+close-gap-requires c κs =
     let d = c .before .before in
     let start = d .before .before .before .before .before .before .before in
     let two = d .before .before .before .before .before .if1 .left in
@@ -38,7 +38,7 @@ removed c =
     let room = ports-room _ (start .pre) in
     let yes = port-held _ _ _ _ two read (d .find-port .ensures) even (omega arith) in
     let place = port-place _ _ _ _ two read (d .find-port .ensures) even in
-    rw (eq-eqb _ _ two, yes, ← place, c .done .ensures, c .before .closed .ensures)
+    rw (eq-eqb _ _ two, yes, ← place, c .done .ensures, c .before .close-gap .ensures)
 
 pub remove-spec : {M : Type 1} → statement M
 unfolding removePort
@@ -55,6 +55,6 @@ remove-spec =
     missing
     (λ c. let start = c .before .before .before .before .before .before .before .before in ports-room _ (start .pre) .inside)
     (λ c. let start = c .before .before .before .before .before .before .before .before .before in sym (ports-room _ (start .pre) .counted))
-    closed-requires
+    close-gap-requires
     (λ c κs. search needs)
     removed)

@@ -5,14 +5,14 @@ use mathlib.Core.List.{List}
 use Prim.Native.Nat.{ℕ}
 use borrow.Author.Needs.{needs}
 use lib.ListN.{set}
-use Rattle.property.specs.Numbers.{numberAt}
+use Rattle.property.specs.Number.{numberAt}
 use Rattle.property.specs.declared.number.Number.{Number as Numeric}
 use Rattle.property.proofs.TableRule.{width-most}
 use Rattle.device.specs.Rules.{stackRule, linkRule}
 use Rattle.device.specs.declared.state.Link.{Link}
 use Rattle.device.proofs.StateRules.{link-told, nine-numbers}
 use Rattle.method.specs.Perform.{valueIn, conflicts, numberTo, setNumber}
-use Rattle.method.specs.declared.set.Value.the-variants.{Good}
+use Rattle.method.specs.declared.set.PayloadNumber.the-variants.{Good}
 use Rattle.method.proofs.LawsNumbers.{value-within}
 use Rattle.method.proofs.StackAndInterface.{conflict-test}
 use Rattle.method.proofs.set.set_number.Statement.{statement}

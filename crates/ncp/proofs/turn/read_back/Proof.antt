@@ -5,7 +5,7 @@ use Prim.Native.Nat.{ℕ}
 use native.Mathlib.Omega.{arith}
 use borrow.Author.Needs.{needs}
 use Rattle.octets.specs.Octets.{Octets}
-use Rattle.hdlc.specs.Reading.{outcome}
+use Rattle.hdlc.specs.Reader.{outcome}
 use Rattle.hdlc.proofs.ReaderRules.{fresh-rules, rules-hold}
 use Rattle.ncp.specs.Turns.{readBack}
 use Rattle.ncp.proofs.LawsReadBack.{back-checked, back-none}

@@ -1,6 +1,6 @@
 -- Each return is a branch of the definition.
 use borrow.Author.Tests.{le-leb, lt-leb, lt-ltb, le-ltb}
-use Rattle.property.specs.Numbers.{within}
+use Rattle.property.specs.Number.{within}
 use Rattle.property.proofs.number.is_within.Statement.{statement}
 use Rattle.property.proofs.number.is_within.Tie as tie
 

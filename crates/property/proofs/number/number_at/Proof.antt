@@ -1,7 +1,7 @@
 -- The table's rule, by its computed test.
 use borrow.Author.Needs.{needs}
 use mathlib.Core.Path.{refl}
-use Rattle.property.specs.Numbers.{numbers}
+use Rattle.property.specs.Number.{numbers}
 use Rattle.property.proofs.TableRule.{numbers-keep}
 use Rattle.property.proofs.number.number_at.Statement.{statement}
 use Rattle.property.proofs.number.number_at.Tie as tie

@@ -1,6 +1,6 @@
 -- Each arm is a clause of the definition.
 use borrow.Author.Needs.{needs}
-use Rattle.property.specs.Rows.{allows}
+use Rattle.property.specs.Row.{allows}
 use Rattle.property.proofs.row.allows.Statement.{statement}
 use Rattle.property.proofs.row.allows.Tie as tie
 

@@ -6,7 +6,7 @@ use native.Mathlib.Omega.{arith}
 use lib.ListN.{drop}
 use Rattle.property.specs.declared.row.Row.{Row}
 use Rattle.property.specs.declared.row.Found.the-variants.{At}
-use Rattle.property.specs.Rows.{rows, lookupIn, lookup}
+use Rattle.property.specs.Row.{rows, lookupIn, lookup}
 use Rattle.property.proofs.TableRule.{hit, miss, past, rows-keep}
 use Rattle.property.proofs.row.find.Statement.{statement}
 use Rattle.property.proofs.row.find.Tie as tie

@@ -1,6 +1,6 @@
 -- The code's table is the definition's.
 use borrow.Author.Needs.{needs}
-use Rattle.property.specs.Rows.{rows}
+use Rattle.property.specs.Row.{rows}
 use Rattle.property.proofs.row.row_at.Statement.{statement}
 use Rattle.property.proofs.row.row_at.Tie as tie
 

@@ -4,12 +4,12 @@ use borrow.Author.Needs.{needs}
 use Rattle.octets.proofs.LawsWriting.{wrote-both}
 use Rattle.packed.proofs.ReadsBack.{packed-size}
 use Rattle.property.proofs.TableRule.{small-id}
-use Rattle.reply.specs.Reply.{replied}
+use Rattle.reply.specs.Reply.{successReply}
 use Rattle.reply.proofs.reply.write_reply.Statement.{statement}
 use Rattle.reply.proofs.reply.write_reply.Tie as tie
 
 pub write-reply-spec : {M : Type 1} → statement M
-unfolding replied
+unfolding successReply
 write-reply-spec =
     tie.close
     (tie.spec

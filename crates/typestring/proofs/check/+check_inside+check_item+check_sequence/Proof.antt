@@ -8,10 +8,10 @@ use borrow.Author.Needs.{needs}
 use borrow.Fn.Kinds.{In}
 use borrow.Fn.PlainCycle.{Measures, is, falls, and}
 use lib.ListN.{length, getD, drop}
-use Rattle.typestring.specs.declared.kind.Kind.{Kind}
+use Rattle.typestring.specs.declared.kind.ItemKind.{ItemKind}
 use Rattle.typestring.specs.declared.check.Scan.the-variants as scan
 use Rattle.typestring.specs.Grammar.{value, rest, struct, array}
-use Rattle.typestring.specs.Parse.{closed, passed, inside, headed, itemOf, partAt, itemAt}
+use Rattle.typestring.specs.Parse.{endsPart, passed, inside, headed, itemOf, partAt, itemAt}
 use Rattle.typestring.proofs.LawsCheck.{Onward, more-left, part-closed, part-bad, part-last, part-not-last, part-next, item-at, inside-none, inside-unopened, inside-nothing, inside-some, brackets-cut, brackets-shut, brackets-item}
 use Rattle.typestring.proofs.check.check_inside.Reads as check-inside
 use Rattle.typestring.proofs.check.check_inside.Kinds as check-inside-kinds
@@ -22,7 +22,7 @@ use Rattle.typestring.proofs.check.+check_inside+check_item+check_seque
 use Rattle.typestring.proofs.check.check_sequence.Reads as check-sequence
 use Rattle.typestring.proofs.check.check_sequence.Kinds as check-sequence-kinds
 use Rattle.typestring.proofs.check.+check_inside+check_item+check_sequence.Lts-check_sequence as check-sequence-lts
-use Rattle.typestring.proofs.check.closed.Reads as closed-reads
+use Rattle.typestring.proofs.check.ends_part.Reads as ends-part-reads
 use Rattle.typestring.proofs.kind.kind_of.Reads as kind-of-reads
 use Rattle.typestring.proofs.check.+check_inside+check_item+check_sequence.{statement}
 use Rattle.typestring.proofs.check.+check_inside+check_item+check_sequence.Tie.{close}
@@ -73,13 +73,13 @@ check-sequence-below t =
     check-sequence.Pre
 
 abbrev check-inside-claims : ℕ → check-inside-lts.Claims
-check-inside-claims t = (closed-reads.Asked, closed-reads.Learnt, check-sequence-below t, check-sequence.Post)
+check-inside-claims t = (ends-part-reads.Asked, ends-part-reads.Learnt, check-sequence-below t, check-sequence.Post)
 
 abbrev check-item-claims : ℕ → check-item-lts.Claims
 check-item-claims t = (kind-of-reads.Asked, kind-of-reads.Learnt, check-inside-below t, check-inside.Post)
 
 abbrev check-sequence-claims : ℕ → check-sequence-lts.Claims
-check-sequence-claims t = (closed-reads.Asked, closed-reads.Learnt, check-item-below t, check-item.Post)
+check-sequence-claims t = (ends-part-reads.Asked, ends-part-reads.Learnt, check-item-below t, check-item.Post)
 
 check-inside-returns : (t : ℕ) → check-inside-lts.Need-returns (check-inside-claims t) (check-inside-at t) check-inside.Post
 unfolding inside
@@ -103,7 +103,7 @@ check-inside-returns-4 : (t : ℕ) → check-inside-lts.Need-returns-4 (check-in
 check-inside-returns-4 t c =
     let s = c .before .before .before .before in
     inside-nothing _ _ _ _ (s .before .if1 .left) (s .before .before .before .pre .1) (s .if2 .left) (c .before .before .if3 .left)
-    (sym (c .if4 .taken) ∙ c .before .closed .ensures)
+    (sym (c .if4 .taken) ∙ c .before .ends-part .ensures)
 
 check-inside-sub-check-sequence : (t : ℕ) → check-inside-lts.Need-sub-check-sequence (check-inside-claims t) (check-inside-at t) check-inside.Post
 check-inside-sub-check-sequence t c = omega arith
@@ -116,7 +116,7 @@ check-inside-part : (t : ℕ) (c : check-inside-lts.Else4 (check-inside-claims t
 check-inside-part t c =
     let s = c .before .before .before .before in
     inside-some _ _ _ _ (s .before .if1 .left) (s .before .before .before .pre .1) (s .if2 .left) (c .before .before .if3 .left)
-    (sym (c .if4 .left) ∙ c .before .closed .ensures)
+    (sym (c .if4 .left) ∙ c .before .ends-part .ensures)
 
 check-inside-returns-5 : (t : ℕ) → check-inside-lts.Need-returns-5 (check-inside-claims t) (check-inside-at t) check-inside.Post
 check-inside-returns-5 t c =
@@ -138,7 +138,7 @@ check-inside-returns-7 t c =
     (check-inside-part t (c .before .before .before .before .before)) (c .if5 .left)
 
 -- the item at a letter whose kind is known
-check-item-of : (t : ℕ) (c : check-item-lts.After-kind-of (check-item-claims t) (check-item-at t) check-item.Post) {k : Kind}
+check-item-of : (t : ℕ) (c : check-item-lts.After-kind-of (check-item-claims t) (check-item-at t) check-item.Post) {k : ItemKind}
     → let a = c .before .before .before .args in
     c .kind-of .result ≡ k
     → itemAt (a .depth) (a .in-array) (drop (a .at) (a .types .now))
@@ -211,13 +211,13 @@ check-sequence-returns : (t : ℕ)
     → check-sequence-lts.Need-returns (check-sequence-claims t) (check-sequence-at t) check-sequence.Post Inv-loop μ-loop
 check-sequence-returns t c =
     let inv = c .before .before .loop .inv in
-    inv .2 (scan.Upto _) (part-closed _ _ _ _ (inv .1) (sym (c .if1 .taken) ∙ c .before .closed .ensures))
+    inv .2 (scan.Upto _) (part-closed _ _ _ _ (inv .1) (sym (c .if1 .taken) ∙ c .before .ends-part .ensures))
 
 -- the part goes on where it isn't closed
 check-sequence-goes-on : (t : ℕ)
     (c : check-sequence-lts.Else1 (check-sequence-claims t) (check-sequence-at t) check-sequence.Post Inv-loop μ-loop)
-    → false ≡ closed (drop (c .before .before .loop .next) (c .before .before .before .before .args .types .now))
-check-sequence-goes-on t c = sym (c .if1 .left) ∙ c .before .closed .ensures
+    → false ≡ endsPart (drop (c .before .before .loop .next) (c .before .before .before .before .args .types .now))
+check-sequence-goes-on t c = sym (c .if1 .left) ∙ c .before .ends-part .ensures
 
 check-sequence-check-item-requires : (t : ℕ)
     → check-sequence-lts.Need-check-item-requires (check-sequence-claims t) (check-sequence-at t) check-sequence.Post Inv-loop μ-loop
@@ -233,9 +233,9 @@ check-sequence-returns-2 t c =
     (part-bad (s .before .before .args .types .now) _ _ (s .loop .next) (check-sequence-goes-on t (c .before .before .before))
     (rw (c .enum-told .given .1) at (c .before .before .check-item .ensures)))
 
-check-sequence-closed-requires-2 : (t : ℕ)
-    → check-sequence-lts.Need-closed-requires-2 (check-sequence-claims t) (check-sequence-at t) check-sequence.Post Inv-loop μ-loop
-check-sequence-closed-requires-2 t c κs = let f = rw (c .before .end .given .1) at (c .before .before .before .check-item .ensures) in omega arith
+check-sequence-ends-part-requires-2 : (t : ℕ)
+    → check-sequence-lts.Need-ends-part-requires-2 (check-sequence-claims t) (check-sequence-at t) check-sequence.Post Inv-loop μ-loop
+check-sequence-ends-part-requires-2 t c κs = let f = rw (c .before .end .given .1) at (c .before .before .before .check-item .ensures) in omega arith
 
 check-sequence-returns-3 : (t : ℕ)
     → check-sequence-lts.Need-returns-3 (check-sequence-claims t) (check-sequence-at t) check-sequence.Post Inv-loop μ-loop
@@ -243,7 +243,7 @@ check-sequence-returns-3 t c =
     c .before .before .before .before .before .before .before .before .loop .inv .2 (scan.Upto _)
     (part-last _ _ _ _ (check-sequence-goes-on t (c .before .before .before .before .before .before)) _
     (rw (c .before .before .before .end .given .1) at (c .before .before .before .before .before .check-item .ensures))
-    (sym (c .if2 .taken) ∙ c .before .closed2 .ensures))
+    (sym (c .if2 .taken) ∙ c .before .ends-part2 .ensures))
 
 check-sequence-returns-4 : (t : ℕ)
     → check-sequence-lts.Need-returns-4 (check-sequence-claims t) (check-sequence-at t) check-sequence.Post Inv-loop μ-loop
@@ -251,7 +251,7 @@ check-sequence-returns-4 t c =
     c .before .before .before .before .before .before .before .before .loop .inv .2 scan.Bad
     (part-not-last _ _ _ _ (check-sequence-goes-on t (c .before .before .before .before .before .before)) _
     (rw (c .before .before .before .end .given .1) at (c .before .before .before .before .before .check-item .ensures))
-    (sym (c .if2 .left) ∙ c .before .closed2 .ensures))
+    (sym (c .if2 .left) ∙ c .before .ends-part2 .ensures))
 
 check-sequence-loop-less : (t : ℕ)
     → check-sequence-lts.Need-loop-less (check-sequence-claims t) (check-sequence-at t) check-sequence.Post Inv-loop μ-loop
@@ -320,7 +320,7 @@ pub +check-inside+check-item+check-sequence-spec : {M : Type 1} → statement M
     (λ c. search needs)
     (check-sequence-returns-2 t)
     (λ c. search needs)
-    (check-sequence-closed-requires-2 t)
+    (check-sequence-ends-part-requires-2 t)
     (check-sequence-returns-3 t)
     (check-sequence-returns-4 t)
     (λ c. search needs)

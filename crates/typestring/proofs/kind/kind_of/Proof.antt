@@ -2,7 +2,7 @@
 use mathlib.Core.Logic.{inl, inr, ⊎-elim}
 use mathlib.Core.Path.{sym, ap}
 use borrow.Author.Tests.{ne-eqb}
-use Rattle.typestring.specs.Kinds.{kindOf}
+use Rattle.typestring.specs.Kind.{kindOf}
 use Rattle.typestring.proofs.kind.kind_of.Statement.{statement}
 use Rattle.typestring.proofs.kind.kind_of.Tie as tie
 

@@ -1,7 +1,7 @@
 -- The code's numbers are the table's defaults.
 use mathlib.Core.Path.{refl}
 use Rattle.octets.specs.Padding.{pad}
-use Rattle.property.specs.Numbers.{numbers}
+use Rattle.property.specs.Number.{numbers}
 use Rattle.device.specs.State.{defaults}
 use Rattle.device.proofs.state.Link.fresh.Statement.{statement}
 use Rattle.device.proofs.state.Link.fresh.Tie as tie

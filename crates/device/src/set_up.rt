@@ -1,0 +1,70 @@
+// Setup (01, Setup).
+use crate::state::Device;
+use crate::state::Settings;
+use crate::state::Text;
+use octets::write_octets;
+ghost use mathlib.Core.Path.{_≡_};
+ghost use lib.ListN.{length};
+ghost use Rattle.device.specs.Setup.{reported, refusal, setupFor};
+
+// 01's numbers: 0 and 14.
+pub enum Answer {
+    Ready,
+    BadSetup,
+}
+
+pub struct Configured {
+    pub answer: Answer,
+    pub device: Device,
+}
+
+fn address_of(octets: &[u8]) -> [u8; Device::ADDRESS]
+    requires { ⌜ length (now octets) ≡ 8 ⌝ }
+    ensures { λ r. ⌜ r ≡ now (octets .entry) ⌝ }
+{
+    let mut address = [0u8; Device::ADDRESS];
+    write_octets(&mut address, 0, octets);
+    address
+}
+
+// A fresh box of one link, vendor 0, empty text, zero address.
+fn refuse() -> Configured
+    ensures { λ r. ⌜ reported r ≡ refusal ⌝ }
+{
+    Configured {
+        answer: Answer::BadSetup,
+        device: Device::fresh(Settings {
+            links: 1,
+            vendor: 0,
+            text: Text {
+                octets: [0; Device::MAX_TEXT],
+                len: 0,
+            },
+            address: [0; Device::ADDRESS],
+        }),
+    }
+}
+
+pub fn setup(links: usize, vendor: u32, text: &[u8], address: &[u8]) -> Configured
+    ensures { λ r. ⌜ reported r ≡ setupFor links vendor (now (text .entry)) (now (address .entry)) ⌝ }
+{
+    if Device::MAX_TEXT < text.len() {
+        return refuse();
+    }
+    if address.len() != Device::ADDRESS {
+        return refuse();
+    }
+    let settings = Settings {
+        links,
+        vendor,
+        text: Text::of(text),
+        address: address_of(address),
+    };
+    if settings.keep_rules() {
+        return Configured {
+            answer: Answer::Ready,
+            device: Device::fresh(settings),
+        };
+    }
+    refuse()
+}
