@@ -16,12 +16,13 @@ use Rattle.packed.proofs.OneSpelling.{one-octet}
 use Rattle.property.specs.Row.{rows, settable, lookupIn, lookup, allows}
 use Rattle.property.specs.Number.{powerState, within}
 use Rattle.property.proofs.TableRule.{power-id}
-use Rattle.property.specs.declared.row.Command.{Command}
-use Rattle.property.specs.declared.row.Command.the-variants.{Get, Set, Insert, Remove}
+use Rattle.property.specs.declared.commands.Command.{Command}
+use Rattle.property.specs.declared.commands.Command.the-variants.{Get, Set, Insert, Remove}
 use Rattle.property.specs.declared.row.Kind.{Kind}
 use Rattle.property.specs.declared.row.Kind.the-variants.{ReadOnly, Power, Number as Kind·Number, Name, Ports}
 use Rattle.property.specs.declared.row.Scope.the-variants as scope
 use Rattle.property.specs.declared.row.Row.{Row}
+use Rattle.device.specs.State.{maxReply}
 use Rattle.device.specs.declared.state.Link.{Link}
 use Rattle.device.specs.declared.view.View.{View}
 use Rattle.device.specs.declared.view.Effect.the-variants.{None, Reset, Powered}
@@ -83,7 +84,7 @@ quiet-decision : (v : View) (h : ℕ) (c : Command) (r : Row) (p : List ℕ) (l 
 unfolding decisionOf concluded replying statusDecision
 quiet-decision v h c r p l (Refused s) q = refl
 quiet-decision v h c r p l (Done e) q =
-    by-test (ltb 61 (length (successReply (after v e l) h c r p))) (λ t. rw t) (λ t. rw t q)
+    by-test (ltb maxReply (length (successReply (after v e l) h c r p))) (λ t. rw t) (λ t. rw t q)
 
 -- ---- a power setting that is accepted is one by its octets
 

@@ -8,8 +8,11 @@ use borrow.Author.Tests.{eq-eqb}
 use lib.Dec.{leb, ltb}
 use lib.ListN.{length, drop}
 use Rattle.octets.proofs.LawsTests.{by-test, chosen, impossible}
-use Rattle.property.specs.declared.row.Command.{Command}
+use Rattle.property.specs.Commands.{headerFlag}
+use Rattle.property.specs.Status.{maxStatus}
+use Rattle.property.specs.declared.commands.Command.{Command}
 use Rattle.property.specs.declared.row.Row.{Row}
+use Rattle.device.specs.State.{maxReply}
 use Rattle.device.specs.Rules.{sized, linkRule, settingsRule}
 use Rattle.device.specs.declared.state.Link.{Link}
 use Rattle.device.proofs.StateRules.{LinkFacts, link-told, link-from}
@@ -29,7 +32,7 @@ use Rattle.command.proofs.EffectsByOctets.{reset-verdict}
 
 -- ---- the link
 
-status-kept : (l : Link) (s : ℕ) → LinkFacts l → leb s 127 ≡ true → LinkFacts (withStatus l s)
+status-kept : (l : Link) (s : ℕ) → LinkFacts l → leb s maxStatus ≡ true → LinkFacts (withStatus l s)
 unfolding sized
 status-kept l s f h = record { sized = f .sized; status = h; range = f .range; stack = f .stack; name = f .name; ports = f .ports }
 
@@ -47,7 +50,7 @@ decide-keeps v b s t = link-from _ (link-by v (headerOf b) (judged v b) (link-to
 -- ---- the reply
 
 abbrev pub Bounded : List ℕ → Type 0
-Bounded reply = (3 ≤ length reply) × (length reply ≤ 61)
+Bounded reply = (3 ≤ length reply) × (length reply ≤ maxReply)
 
 pub by-judged : (v : View) (h : ℕ) (j : Judged) → Sound v j → Bounded (decisionOf v h j .reply)
 unfolding decisionOf statusDecision statusReply
@@ -61,7 +64,7 @@ concluded-header : (v : View) (h : ℕ) (c : Command) (r : Row) (p : List ℕ) (
 unfolding decisionOf concluded replying statusDecision statusReply successReply
 concluded-header v h c r p l (Refused s) = refl
 concluded-header v h c r p l (Done e) =
-    chosen (λ j. headerOf (decisionOf v h j .reply) ≡ h) (ltb 61 (length (successReply (after v e l) h c r p))) (λ _. refl) (λ _. refl)
+    chosen (λ j. headerOf (decisionOf v h j .reply) ≡ h) (ltb maxReply (length (successReply (after v e l) h c r p))) (λ _. refl) (λ _. refl)
 
 header-by : (v : View) (b : List ℕ) (w : Verdict) → verdictOf b ≡ w → isReset b ≡ false
     → headerOf (decisionOf v (headerOf b) (judgedBy v b w) .reply) ≡ headerOf b
@@ -71,6 +74,6 @@ header-by v b verdict.Noop e n = refl
 header-by v b verdict.Reset e n = impossible (cc (eq-eqb _ _ (verdict-reset b e)))
 header-by v b (verdict.Reach c r start) e n = concluded-header v (headerOf b) c r (drop start b) _ _
 
-pub decide-header : (v : View) (b : List ℕ) → headerOf (decide v b .reply) ≡ cond (isReset b) 0x80 (headerOf b)
+pub decide-header : (v : View) (b : List ℕ) → headerOf (decide v b .reply) ≡ cond (isReset b) headerFlag (headerOf b)
 unfolding decide judged judgedBy decisionOf statusReply
 decide-header v b = by-test (isReset b) (λ t. rw (t, reset-verdict b t)) (λ t. rw t (header-by v b (verdictOf b) refl t))

@@ -7,10 +7,12 @@ use Prim.Native.Nat.{ℕ, _≤_}
 use lib.Dec.{ltb, leb}
 use lib.ListN.{length, drop}
 use Rattle.octets.proofs.LawsTests.{chosen}
+use Rattle.property.specs.Status.{maxStatus}
 use Rattle.property.specs.Rule.{rowRule}
-use Rattle.property.specs.declared.row.Command.{Command}
+use Rattle.property.specs.declared.commands.Command.{Command}
 use Rattle.property.specs.declared.row.Row.{Row}
 use Rattle.property.proofs.TableRule.{slot-below}
+use Rattle.device.specs.State.{maxReply}
 use Rattle.device.specs.Rules.{settingsRule, linkRule}
 use Rattle.device.proofs.StateRules.{LinkFacts}
 use Rattle.device.specs.declared.view.View.{View}
@@ -29,10 +31,10 @@ use Rattle.command.specs.Decision.{Judged, stopped, noop, reset, success
 use Rattle.command.proofs.LawsContent.{content-size}
 
 abbrev pub Sound : View → Judged → Type 0
-Sound v (stopped s) = leb s 127 ≡ true
+Sound v (stopped s) = leb s maxStatus ≡ true
 Sound v noop = Unit {0}
 Sound v reset = Unit {0}
-Sound v (success e l reply) = LinkFacts l × (l .status ≡ v .link .status) × (3 ≤ length reply) × (length reply ≤ 61)
+Sound v (success e l reply) = LinkFacts l × (l .status ≡ v .link .status) × (3 ≤ length reply) × (length reply ≤ maxReply)
 
 module _ (v : View) (s : settingsRule (v .settings) ≡ true) (t : linkRule (v .link) ≡ true) where
   concluded-sound : (h : ℕ) (c : Command) (r : Row) (p : List ℕ) (o : Outcome) → rowRule r ≡ true → perform (v .link) c (r .kind) p .outcome ≡ o
@@ -45,7 +47,7 @@ module _ (v : View) (s : settingsRule (v .settings) ≡ true) (t : linkRule (v .
       let kept = perform-kept (v .link) t c (r .kind) p (λ slot k. slot-below r slot k rule) in
       let l = perform (v .link) c (r .kind) p .link in
       let size = replied-size (after v x l) h c r p (content-size v c r p x s t rule e) in
-      chosen (Sound v) (ltb 61 (length (successReply (after v x l) h c r p))) (λ _. refl) (λ _. (kept .facts, kept .same, size .0, size .1))
+      chosen (Sound v) (ltb maxReply (length (successReply (after v x l) h c r p))) (λ _. refl) (λ _. (kept .facts, kept .same, size .0, size .1))
 
   judged-by : (b : List ℕ) (w : Verdict) → verdictOf b ≡ w → Small w → Sound v (judgedBy v b w)
   unfolding judgedBy reached

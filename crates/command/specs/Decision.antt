@@ -6,8 +6,11 @@ use mathlib.Core.Path.{_≡_}
 use lib.Dec.{ltb}
 use lib.ListN.{length, drop}
 use Rattle.octets.specs.Writing.{Wrote}
-use Rattle.property.specs.declared.row.Command.{Command}
+use Rattle.property.specs.Commands.{headerFlag}
+use Rattle.property.specs.Status.{resetStatus}
+use Rattle.property.specs.declared.commands.Command.{Command}
 use Rattle.property.specs.declared.row.Row.{Row}
+use Rattle.device.specs.State.{maxReply}
 use Rattle.device.specs.declared.state.Link.{Link}
 use Rattle.device.specs.declared.view.View.{View}
 use Rattle.device.specs.declared.view.Effect.{Effect}
@@ -32,7 +35,7 @@ pub data Judged : Type 0 where
 
 -- step 9, "a reply body over 61 octets: 7"
 unfoldable pub replying : Effect → Link → List ℕ → Judged
-replying e l reply = cond (ltb 61 (length reply)) (stopped 7) (success e l reply)
+replying e l reply = cond (ltb maxReply (length reply)) (stopped 7) (success e l reply)
 
 -- the value of the reply is the one held after the command
 abbrev pub performed : View → ℕ → Command → Row → List ℕ → Link → Effect → Judged
@@ -71,7 +74,7 @@ statusDecision l h s = record { effect = effect.None; link = withStatus l s; rep
 unfoldable pub decisionOf : View → ℕ → Judged → Decision
 decisionOf v h (stopped s) = statusDecision (v .link) h s
 decisionOf v h noop = statusDecision (v .link) h 0
-decisionOf v h reset = record { effect = effect.Reset; link = v .link; reply = statusReply 0x80 114 }
+decisionOf v h reset = record { effect = effect.Reset; link = v .link; reply = statusReply headerFlag resetStatus }
 decisionOf v h (success e l reply) = record { effect = e; link = l; reply = reply }
 
 unfoldable pub decide : View → List ℕ → Decision

@@ -7,6 +7,7 @@ use method::Outcome;
 use method::perform_on;
 use property::Command;
 use property::Row;
+use property::commands;
 use property::status;
 use reply::write_reply;
 use reply::write_status;
@@ -17,9 +18,10 @@ ghost use mathlib.Core.Path.{_≡_};
 ghost use Prim.Native.Nat.{_≤_, _<_};
 ghost use lib.ListN.{length};
 ghost use Rattle.property.specs.Rule.{rowRule};
+ghost use Rattle.device.specs.State.{maxReply};
 ghost use Rattle.device.specs.Rules.{settingsRule, linkRule};
 ghost use Rattle.device.specs.View.{after};
-ghost use Rattle.reply.specs.Reply.{content};
+ghost use Rattle.reply.specs.Reply.{content, maxContent};
 ghost use Rattle.command.specs.Decision.{Did, statusDecision, decisionOf, performed, reached, decide};
 
 // The effect on the whole box, the link, and how many octets the reply has.
@@ -31,7 +33,7 @@ pub struct Decided {
 
 // A status, which becomes the link's last one.
 fn report_status(link: Link, header: u8, status: u8, out: &mut [u8]) -> Decided
-    requires { ⌜ 61 ≤ length (now out) ⌝ }
+    requires { ⌜ maxReply ≤ length (now out) ⌝ }
     ensures { λ r. ⌜ Did (statusDecision link header status) r (now (out .entry)) (now (out .exit)) ⌝ }
 {
     let len = write_status(out, header, status);
@@ -56,7 +58,7 @@ fn conclude(
     out: &mut [u8],
 ) -> Decided
     requires { ⌜ (settingsRule (view .settings) ≡ true) × (linkRule link ≡ true) × (rowRule row ≡ true) ⌝ }
-    requires { ⌜ (61 ≤ length (now out)) × (length (content (after view effect link) command (row .kind) (now payload)) ≤ 33) ⌝ }
+    requires { ⌜ (maxReply ≤ length (now out)) × (length (content (after view effect link) command (row .kind) (now payload)) ≤ maxContent) ⌝ }
     ensures { λ r. ⌜ Did (decisionOf view header (performed view header command row (now (payload .entry)) link effect)) r (now (out .entry)) (now (out .exit)) ⌝ }
 {
     let len = write_reply(out, view.after(effect, link), header, command, row, payload);
@@ -75,7 +77,7 @@ fn reach(
     payload: &[u8],
     out: &mut [u8],
 ) -> Decided
-    requires { ⌜ (settingsRule (view .settings) ≡ true) × (linkRule (view .link) ≡ true) × (rowRule row ≡ true) × (61 ≤ length (now out)) ⌝ }
+    requires { ⌜ (settingsRule (view .settings) ≡ true) × (linkRule (view .link) ≡ true) × (rowRule row ≡ true) × (maxReply ≤ length (now out)) ⌝ }
     ensures { λ r. ⌜ Did (decisionOf view header (reached view header command row (now (payload .entry)))) r (now (out .entry)) (now (out .exit)) ⌝ }
 {
     let performed = perform_on(view.link, command, row, payload);
@@ -89,7 +91,7 @@ fn reach(
 
 // Steps 2 to 9.
 pub fn decide(view: View, body: &[u8], out: &mut [u8]) -> Decided
-    requires { ⌜ (settingsRule (view .settings) ≡ true) × (linkRule (view .link) ≡ true) × (0 < length (now body)) × (61 ≤ length (now out)) ⌝ }
+    requires { ⌜ (settingsRule (view .settings) ≡ true) × (linkRule (view .link) ≡ true) × (0 < length (now body)) × (maxReply ≤ length (now out)) ⌝ }
     ensures { λ r. ⌜ Did (decide view (now (body .entry))) r (now (out .entry)) (now (out .exit)) ⌝ }
 {
     let header = body[0];
@@ -99,7 +101,7 @@ pub fn decide(view: View, body: &[u8], out: &mut [u8]) -> Decided
         Verdict::Noop => report_status(link, header, 0, out),
         Verdict::Reset => {
             // The announcement has transaction 0 and link 0, whoever asked.
-            let len = write_status(out, 0x80, status::RESET_SOFTWARE);
+            let len = write_status(out, commands::HEADER_FLAG, status::RESET_SOFTWARE);
             Decided {
                 effect: Effect::Reset,
                 link,

@@ -18,7 +18,7 @@ use Rattle.datatype.specs.declared.list.Read.the-variants as read
 use Rattle.datatype.specs.declared.reading.Answer.{Answer}
 use Rattle.datatype.specs.declared.reading.Answer.the-variants as answer
 use Rattle.datatype.specs.Reading.{Leaf, numbers, upto, partReads}
-use Rattle.datatype.specs.Answer.{refused, listed, payloadReads, result, answerTo, reported, reportOf, filled}
+use Rattle.datatype.specs.Answer.{refused, listed, payloadReads, result, answerTo, reported, reportOf, filled, maxPayload}
 use Rattle.datatype.specs.Calls.{Room, Did, fillingTo, ReadsPart}
 use Rattle.datatype.proofs.LawsTook.{part-took}
 use Rattle.datatype.proofs.LawsReading.{filling-fit}
@@ -59,11 +59,11 @@ module _ (types payload list : List ℕ) (typed : isType (typeOf types) ≡ true
         w .1 .short,
       )
 
-  pub answers-long : 1300 < length payload → Answered types payload list list answer.Misfit
+  pub answers-long : maxPayload < length payload → Answered types payload list list answer.Misfit
   unfolding result
   answers-long h = refuses types payload list list answer.Misfit 16 (rw (tree .1, lt-ltb _ _ h)) refl refl
 
-  module _ (short : length payload ≤ 1300) where
+  module _ (short : length payload ≤ maxPayload) where
     pub readable : ((t : Items) × PartFrom types 4 t) × Room types payload 0 0 0
     readable =
         ((tree .0, tree .2), record { few = tree .3; placed = omega arith; short = short; within = omega arith; counted = omega arith })

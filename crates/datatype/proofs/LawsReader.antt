@@ -19,6 +19,7 @@ use Rattle.typestring.specs.Parse.{endsPart}
 use Rattle.typestring.specs.Calls.{PartFrom, ItemFrom, EndsItem}
 use Rattle.typestring.proofs.kind.ItemKind.{the-type as kind-type}
 use Rattle.typestring.proofs.LawsPlaces.{kindIs, item-first, item-place, part-ended, part-item, struct-inner, array-inner, is-value, is-struct, is-array}
+use Rattle.datatype.specs.Answer.{maxPayload}
 use Rattle.datatype.specs.declared.leaf.Span.{Span}
 use Rattle.datatype.specs.declared.leaf.Span.the-variants as span
 use Rattle.datatype.specs.declared.list.Read.{Read}
@@ -54,7 +55,7 @@ module _ (types : List ℕ) (at depth : ℕ) (part : List ℕ) (from : ℕ) (l l
   reads-array e d i w = let s = is-array types at depth i w e in rw (s .1) (d (s .0) (rw (s .1) at w))
 
 -- a value's span is within the payload
-pub span-small : (v : Value) (part : List ℕ) (from letter : ℕ) (s : Span) → from ≤ length part → length part ≤ 1300 → kindOf letter ≡ kind.Value v
+pub span-small : (v : Value) (part : List ℕ) (from letter : ℕ) (s : Span) → from ≤ length part → length part ≤ maxPayload → kindOf letter ≡ kind.Value v
     → s ≡ spanOf v part from → Small s
 span-small v part from letter span.Misfit room short e f = tt
 span-small v part from letter (span.At start size next) room short e f =

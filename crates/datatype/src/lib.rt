@@ -4,4 +4,5 @@ mod list;
 mod reading;
 
 pub use reading::Answer;
+pub use reading::Payload;
 pub use reading::read_typed;

@@ -6,7 +6,7 @@ use crate::leaf::span_of;
 use crate::list::Read;
 use crate::list::put_leaf;
 use typestring::ItemKind;
-use typestring::MAX_OPEN;
+use typestring::TypeString;
 use typestring::ends_part;
 use typestring::is_type;
 use typestring::item_end;
@@ -18,7 +18,11 @@ ghost use Rattle.typestring.specs.Calls.{PartFrom, ItemFrom};
 ghost use Rattle.datatype.specs.Answer.{reported, reportOf, filled, answerTo};
 ghost use Rattle.datatype.specs.Calls.{Room, ReadsPart, ReadsItem, fillingTo};
 
-const MAX_PAYLOAD: usize = 1300;
+pub struct Payload {}
+
+impl Payload {
+    pub const MAX_OCTETS: usize = 1300;
+}
 
 // What the public call answers, with 01's number of each.
 pub enum Answer {
@@ -40,20 +44,28 @@ pub fn read_typed(types: &[u8], payload: &[u8], list: &mut [u32]) -> Answer
     if is_type(types) {
         let end = payload.len();
         let room = list.len();
-        if MAX_PAYLOAD < end {
+        if Payload::MAX_OCTETS < end {
             return Answer::Misfit;
         }
         // A first reading, which is lent none of the list, only counts: a refusal has to leave the list as it was.
         match filling(
             end,
-            read_sequence(types, 0, MAX_OPEN, payload, 0, &mut list[0..0], 0),
+            read_sequence(
+                types,
+                0,
+                TypeString::MAX_OPEN,
+                payload,
+                0,
+                &mut list[0..0],
+                0,
+            ),
         ) {
             Read::Misfit => Answer::Misfit,
             Read::Upto(_, leaves) => {
                 if room < 3 * leaves {
                     return Answer::ShortList;
                 }
-                read_sequence(types, 0, MAX_OPEN, payload, 0, list, 0);
+                read_sequence(types, 0, TypeString::MAX_OPEN, payload, 0, list, 0);
                 Answer::Leaves(leaves)
             }
         }

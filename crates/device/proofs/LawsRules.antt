@@ -9,8 +9,9 @@ use lib.Seq.{length-take-le}
 use Rattle.octets.specs.Padding.{pad}
 use Rattle.octets.proofs.LawsTests.{both-told}
 use Rattle.octets.proofs.LawsPadding.{pad-length, pad-front, pad-zeros}
+use Rattle.property.specs.Number.{slotCount}
 use Rattle.device.specs.declared.state.Link.{Link}
-use Rattle.device.specs.State.{isText}
+use Rattle.device.specs.State.{isText, maxHeld}
 use Rattle.device.specs.Rules.{padded, textRule, sized}
 
 -- a padded count is within its array, so that so many octets stand at its front
@@ -32,6 +33,6 @@ unfolding textRule padded
 text-pad n xs h = rw (pad-length n xs h, le-leb (length xs) n h, pad-zeros n xs, pad-front n xs)
 
 -- the lengths of a link's arrays
-pub sized-by : (l : Link) → length (l .numbers) ≡ 9 → length (l .name .octets) ≡ 16 → length (l .ports .octets) ≡ 16 → sized l ≡ true
+pub sized-by : (l : Link) → length (l .numbers) ≡ slotCount → length (l .name .octets) ≡ maxHeld → length (l .ports .octets) ≡ maxHeld → sized l ≡ true
 unfolding sized
 sized-by l a b c = rw (eq-eqb _ _ a, eq-eqb _ _ b, eq-eqb _ _ c)

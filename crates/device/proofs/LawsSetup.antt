@@ -8,7 +8,7 @@ use lib.Dec.{eqb, leb}
 use lib.ListN.{length}
 use Rattle.octets.proofs.LawsPadding.{pad-length}
 use Rattle.octets.proofs.LawsTests.{both-told}
-use Rattle.device.specs.State.{isText, fresh}
+use Rattle.device.specs.State.{isText, fresh, addressSize, maxLinks, maxText, maxVendor}
 use Rattle.device.specs.Rules.{settingsRule}
 use Rattle.device.specs.Setup.{isSetup, settingsFrom, refusal, setupFor}
 use Rattle.device.proofs.LawsRules.{text-pad}
@@ -23,21 +23,21 @@ module _ (links vendor : ℕ) (text address : List ℕ) where
   unfolding setupFor
   setup-refused t = rw t
 
-  pub text-long : 32 < length text → isSetup links vendor text address ≡ false
+  pub text-long : maxText < length text → isSetup links vendor text address ≡ false
   unfolding isSetup isText
-  text-long h = simp (lt-leb (length text) 32 h, and-false)
+  text-long h = simp (lt-leb (length text) maxText h, and-false)
 
-  pub address-wrong : (length address ≡ 8 → ⊥) → isSetup links vendor text address ≡ false
+  pub address-wrong : (length address ≡ addressSize → ⊥) → isSetup links vendor text address ≡ false
   unfolding isSetup
-  address-wrong h = simp (ne-eqb (length address) 8 h, and-false)
+  address-wrong h = simp (ne-eqb (length address) addressSize h, and-false)
 
   -- where the lengths are right, the settings' rule is setup's
-  pub setup-rule : length text ≤ 32 → length address ≡ 8 → settingsRule (settingsFrom links vendor text address) ≡ isSetup links vendor text address
+  pub setup-rule : length text ≤ maxText → length address ≡ addressSize → settingsRule (settingsFrom links vendor text address) ≡ isSetup links vendor text address
   unfolding settingsRule isSetup
-  setup-rule h e = rw (pad-length 32 text h, eq-eqb (length address) 8 e, text-pad 32 text h, and-true)
+  setup-rule h e = rw (pad-length maxText text h, eq-eqb (length address) addressSize e, text-pad maxText text h, and-true)
 
   pub setup-told : isSetup links vendor text address ≡ true
-      → (leb 1 links ≡ true) × (leb links 4 ≡ true) × (leb vendor 2097151 ≡ true) × (isText 32 text ≡ true) × (eqb (length address) 8 ≡ true)
+      → (leb 1 links ≡ true) × (leb links maxLinks ≡ true) × (leb vendor maxVendor ≡ true) × (isText maxText text ≡ true) × (eqb (length address) addressSize ≡ true)
   unfolding isSetup
   setup-told t =
       let a = both-told t in

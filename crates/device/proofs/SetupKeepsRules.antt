@@ -13,7 +13,7 @@ use Rattle.octets.proofs.LawsTests.{chosen}
 use Rattle.octets.proofs.LawsScanning.{all-of}
 use Rattle.property.specs.Number.{numbers, within}
 use Rattle.device.specs.declared.state.Settings.{Settings}
-use Rattle.device.specs.State.{goodText, isText, portsIn, distinct, defaults, freshLink, noLink, fresh}
+use Rattle.device.specs.State.{goodText, isText, portsIn, distinct, defaults, freshLink, noLink, fresh, addressSize, maxText, maxLinks}
 use Rattle.device.specs.Rules.{padded, textRule, portsRule, inRange, stackRule, sized, linkRule, atDefaults, isFresh, linkKept, settingsRule, rules}
 use Rattle.device.specs.Setup.{Report, isSetup, settingsFrom, refusal, setupFor}
 use Rattle.device.proofs.LawsSetup.{setup-rule, setup-told}
@@ -29,24 +29,24 @@ fresh-unset : isFresh freshLink ≡ true
 unfolding isFresh sized atDefaults defaults numbers pad allBelow allFrom zerosFrom
 fresh-unset = refl
 
-fresh-kept : (links k : ℕ) → k < 4 → linkKept links (getD (replicate 4 freshLink) k noLink) k ≡ true
+fresh-kept : (links k : ℕ) → k < maxLinks → linkKept links (getD (replicate maxLinks freshLink) k noLink) k ≡ true
 unfolding linkKept
-fresh-kept links k h = rw (getD-replicate 4 k freshLink noLink h) (chosen (λ b. b ≡ true) (ltb k links) (λ e. fresh-set) (λ e. fresh-unset))
+fresh-kept links k h = rw (getD-replicate maxLinks k freshLink noLink h) (chosen (λ b. b ≡ true) (ltb k links) (λ e. fresh-set) (λ e. fresh-unset))
 
 pub fresh-keeps : (s : Settings) → settingsRule s ≡ true → rules (fresh s) ≡ true
 unfolding rules fresh within
-fresh-keeps s t = rw (t, all-of 4 (λ k. linkKept (s .links) (getD (replicate 4 freshLink) k noLink) k) (fresh-kept (s .links)))
+fresh-keeps s t = rw (t, all-of maxLinks (λ k. linkKept (s .links) (getD (replicate maxLinks freshLink) k noLink) k) (fresh-kept (s .links)))
 
 refusal-keeps : rules (refusal .device) ≡ true
 unfolding refusal settingsRule textRule padded isText goodText before pad zerosFrom allFrom
-refusal-keeps = fresh-keeps (settingsFrom 1 0 [] (replicate 8 0)) refl
+refusal-keeps = fresh-keeps (settingsFrom 1 0 [] (replicate addressSize 0)) refl
 
 ready-keeps : (links vendor : ℕ) (text address : List ℕ) → isSetup links vendor text address ≡ true
     → rules (fresh (settingsFrom links vendor text address)) ≡ true
 ready-keeps links vendor text address t =
     let f = setup-told links vendor text address t in
     fresh-keeps (settingsFrom links vendor text address)
-    (setup-rule links vendor text address (text-told 32 text (f .3)) (eqb-true (length address) 8 (f .4)) ∙ t)
+    (setup-rule links vendor text address (text-told maxText text (f .3)) (eqb-true (length address) addressSize (f .4)) ∙ t)
 
 pub setup-keeps : (links vendor : ℕ) (text address : List ℕ) → rules (setupFor links vendor text address .device) ≡ true
 unfolding setupFor

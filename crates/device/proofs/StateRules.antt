@@ -13,18 +13,19 @@ use lib.Seq.{ext-getD, length-take-le}
 use Rattle.octets.specs.Padding.{pad}
 use Rattle.octets.specs.Scanning.{allFrom, allBelow, zerosFrom}
 use Rattle.octets.proofs.LawsScanning.{all-at, all-of}
-use Rattle.property.specs.Number.{numbers, numberAt, powerState, within}
+use Rattle.property.specs.Status.{maxStatus, resetStatus}
+use Rattle.property.specs.Number.{numbers, numberAt, powerState, within, slotCount}
 use Rattle.octets.proofs.LawsTests.{both-told}
 use Rattle.device.specs.declared.state.Link.{Link}
 use Rattle.device.specs.declared.state.Settings.{Settings}
 use Rattle.device.specs.declared.state.Device.{Device}
-use Rattle.device.specs.State.{octetsOf, portsIn, distinct, defaults, freshLink, noLink}
+use Rattle.device.specs.State.{octetsOf, portsIn, distinct, defaults, freshLink, noLink, maxHeld, maxText, maxVendor, addressSize, maxLinks}
 use Rattle.device.specs.Rules.{padded, textRule, portsRule, inRange, stackRule, sized, linkRule, atDefaults, isFresh, linkKept, settingsRule, rules}
 use Rattle.device.proofs.LawsRules.{padded-within}
 
 -- ---- a link's arrays
 
-pub sized-told : (l : Link) → sized l ≡ true → (length (l .numbers) ≡ 9) × (length (l .name .octets) ≡ 16) × (length (l .ports .octets) ≡ 16)
+pub sized-told : (l : Link) → sized l ≡ true → (length (l .numbers) ≡ slotCount) × (length (l .name .octets) ≡ maxHeld) × (length (l .ports .octets) ≡ maxHeld)
 unfolding sized
 sized-told l t =
     let a = both-told t in
@@ -35,7 +36,7 @@ sized-told l t =
 
 pub record LinkFacts (l : Link) : Type 0 where
   pub sized : sized l ≡ true
-  pub status : leb (l .status) 127 ≡ true
+  pub status : leb (l .status) maxStatus ≡ true
   pub range : inRange (l .numbers) ≡ true
   pub stack : stackRule (l .numbers) ≡ true
   pub name : textRule (l .name .octets) (l .name .len) ≡ true
@@ -65,20 +66,20 @@ zeros n xs e t =
     rw (sub-zero n) (ext-getD 0 xs zs (e ∙ sym (length-replicate n 0))
     (λ i h. eqb-true _ _ (all-at (length xs) (λ k. eqb (getD xs k 0) 0) all i h) ∙ sym (getD-replicate n i 0 0 (omega arith))))
 
-default-at : (k : ℕ) → k < 9 → getD defaults k 0 ≡ numberAt k .default
+default-at : (k : ℕ) → k < slotCount → getD defaults k 0 ≡ numberAt k .default
 unfolding defaults numbers allBelow allFrom
-default-at k h = eqb-true _ _ (all-at 9 (λ j. eqb (getD defaults j 0) (numberAt j .default)) refl k h)
+default-at k h = eqb-true _ _ (all-at slotCount (λ j. eqb (getD defaults j 0) (numberAt j .default)) refl k h)
 
-at-defaults : (xs : List ℕ) → length xs ≡ 9 → atDefaults xs ≡ true → xs ≡ defaults
+at-defaults : (xs : List ℕ) → length xs ≡ slotCount → atDefaults xs ≡ true → xs ≡ defaults
 unfolding atDefaults defaults numbers
 at-defaults xs e t =
     ext-getD 0 xs defaults e
-    (λ i h. let low : i < 9 = omega arith in
-    eqb-true _ _ (all-at 9 (λ k. eqb (getD xs k 0) (numberAt k .default)) t i low) ∙ sym (default-at i low))
+    (λ i h. let low : i < slotCount = omega arith in
+    eqb-true _ _ (all-at slotCount (λ k. eqb (getD xs k 0) (numberAt k .default)) t i low) ∙ sym (default-at i low))
 
 abbrev Fresh : Link → Type 0
 Fresh l =
-    (sized l ≡ true) × (eqb (l .status) 114 ≡ true) × (eqb (l .name .len) 0 ≡ true) × (eqb (l .ports .len) 0 ≡ true)
+    (sized l ≡ true) × (eqb (l .status) resetStatus ≡ true) × (eqb (l .name .len) 0 ≡ true) × (eqb (l .ports .len) 0 ≡ true)
     × (atDefaults (l .numbers) ≡ true) × (zerosFrom 0 (l .name .octets) ≡ true) × (zerosFrom 0 (l .ports .octets) ≡ true)
 
 fresh-told : (l : Link) → isFresh l ≡ true → Fresh l
@@ -98,10 +99,10 @@ fresh-link l t =
     let f = fresh-told l t in
     let size = sized-told l (f .0) in
     let numbers = at-defaults (l .numbers) (size .0) (f .4) in
-    let name = zeros 16 (l .name .octets) (size .1) (f .5) in
-    let ports = zeros 16 (l .ports .octets) (size .2) (f .6) in
+    let name = zeros maxHeld (l .name .octets) (size .1) (f .5) in
+    let ports = zeros maxHeld (l .ports .octets) (size .2) (f .6) in
     λ i. record {
-      status = eqb-true (l .status) 114 (f .1) i;
+      status = eqb-true (l .status) resetStatus (f .1) i;
       numbers = numbers i;
       name = record { octets = name i; len = eqb-true (l .name .len) 0 (f .2) i };
       ports = record { octets = ports i; len = eqb-true (l .ports .len) 0 (f .3) i };
@@ -132,14 +133,14 @@ ports-told xs n t =
     (a .0, b .0, b .1)
 
 module _ (l : Link) (t : linkRule l ≡ true) where
-  pub nine-numbers : length (l .numbers) ≡ 9
+  pub nine-numbers : length (l .numbers) ≡ slotCount
   nine-numbers = sized-told l (link-told l t .sized) .0
 
-  pub name-room : Room (l .name .octets) (l .name .len) 16
-  name-room = let f = link-told l t in text-room _ _ 16 (sized-told l (f .sized) .1) (f .name)
+  pub name-room : Room (l .name .octets) (l .name .len) maxHeld
+  name-room = let f = link-told l t in text-room _ _ maxHeld (sized-told l (f .sized) .1) (f .name)
 
-  pub ports-room : Room (l .ports .octets) (l .ports .len) 16
-  ports-room = let f = link-told l t in room _ _ 16 (sized-told l (f .sized) .2) (ports-told _ _ (f .ports) .0)
+  pub ports-room : Room (l .ports .octets) (l .ports .len) maxHeld
+  ports-room = let f = link-told l t in room _ _ maxHeld (sized-told l (f .sized) .2) (ports-told _ _ (f .ports) .0)
 
   -- ports have two octets each, and none stands twice
   pub ports-even : length (octetsOf (l .ports)) % 2 ≡ 0
@@ -151,11 +152,11 @@ module _ (l : Link) (t : linkRule l ≡ true) where
 -- ---- settings
 
 pub record SettingsFacts (s : Settings) : Type 0 where
-  pub text : Room (s .text .octets) (s .text .len) 32
-  pub address : length (s .address) ≡ 8
+  pub text : Room (s .text .octets) (s .text .len) maxText
+  pub address : length (s .address) ≡ addressSize
   pub some : 1 ≤ s .links
-  pub links : s .links ≤ 4
-  pub vendor : s .vendor ≤ 2097151
+  pub links : s .links ≤ maxLinks
+  pub vendor : s .vendor ≤ maxVendor
 
 pub settings-told : (s : Settings) → settingsRule s ≡ true → SettingsFacts s
 unfolding settingsRule
@@ -166,7 +167,7 @@ settings-told s t =
     let d = both-told (c .1) in
     let e = both-told (d .1) in
     record {
-      text = text-room _ _ 32 (eqb-true _ _ (a .0)) (e .1);
+      text = text-room _ _ maxText (eqb-true _ _ (a .0)) (e .1);
       address = eqb-true _ _ (b .0);
       some = leb-true _ _ (c .0);
       links = leb-true _ _ (d .0);
@@ -175,14 +176,14 @@ settings-told s t =
 
 -- ---- the box
 
-pub rules-from : (d : Device) → settingsRule (d .settings) ≡ true → within powerState (d .power) ≡ true → length (d .links) ≡ 4
-    → ((k : ℕ) → k < 4 → linkKept (d .settings .links) (getD (d .links) k noLink) k ≡ true) → rules d ≡ true
+pub rules-from : (d : Device) → settingsRule (d .settings) ≡ true → within powerState (d .power) ≡ true → length (d .links) ≡ maxLinks
+    → ((k : ℕ) → k < maxLinks → linkKept (d .settings .links) (getD (d .links) k noLink) k ≡ true) → rules d ≡ true
 unfolding rules
-rules-from d s p four kept = rw (s, p, eq-eqb _ _ four, all-of 4 (λ k. linkKept (d .settings .links) (getD (d .links) k noLink) k) kept)
+rules-from d s p four kept = rw (s, p, eq-eqb _ _ four, all-of maxLinks (λ k. linkKept (d .settings .links) (getD (d .links) k noLink) k) kept)
 
 module _ (d : Device) (t : rules d ≡ true) where
   parts : (settingsRule (d .settings) ≡ true) × (within powerState (d .power) ≡ true) × (eqb (length (d .links)) 4 ≡ true)
-      × (allBelow 4 (λ k. linkKept (d .settings .links) (getD (d .links) k noLink) k) ≡ true)
+      × (allBelow maxLinks (λ k. linkKept (d .settings .links) (getD (d .links) k noLink) k) ≡ true)
   unfolding rules
   parts =
       let a = both-told t in
@@ -196,17 +197,17 @@ module _ (d : Device) (t : rules d ≡ true) where
   pub power-of : within powerState (d .power) ≡ true
   power-of = parts .1
 
-  pub four : length (d .links) ≡ 4
+  pub four : length (d .links) ≡ maxLinks
   four = eqb-true _ _ (parts .2)
 
   pub some : 1 ≤ d .settings .links
   some = settings-told (d .settings) settings-of .some
 
-  pub few : d .settings .links ≤ 4
+  pub few : d .settings .links ≤ maxLinks
   few = settings-told (d .settings) settings-of .links
 
-  pub kept : (k : ℕ) → k < 4 → linkKept (d .settings .links) (getD (d .links) k noLink) k ≡ true
-  kept k h = all-at 4 (λ j. linkKept (d .settings .links) (getD (d .links) j noLink) j) (parts .3) k h
+  pub kept : (k : ℕ) → k < maxLinks → linkKept (d .settings .links) (getD (d .links) k noLink) k ≡ true
+  kept k h = all-at maxLinks (λ j. linkKept (d .settings .links) (getD (d .links) j noLink) j) (parts .3) k h
 
   -- a link that is set up keeps its rule
   pub link-at : (k : ℕ) → k < d .settings .links → linkRule (getD (d .links) k noLink) ≡ true
@@ -214,6 +215,6 @@ module _ (d : Device) (t : rules d ≡ true) where
   link-at k h = rw (lt-ltb k (d .settings .links) h) at (kept k (omega (arith, few)))
 
   -- and one that is not is the fresh link
-  pub unset-at : (k : ℕ) → k < 4 → d .settings .links ≤ k → getD (d .links) k noLink ≡ freshLink
+  pub unset-at : (k : ℕ) → k < maxLinks → d .settings .links ≤ k → getD (d .links) k noLink ≡ freshLink
   unfolding linkKept
   unset-at k h past = fresh-link (getD (d .links) k noLink) (rw (le-ltb k (d .settings .links) past) at (kept k h))

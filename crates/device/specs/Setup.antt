@@ -9,7 +9,7 @@ use Rattle.device.specs.declared.state.Device.{Device}
 use Rattle.device.specs.declared.set_up.Answer.{Answer}
 use Rattle.device.specs.declared.set_up.Answer.the-variants.{Ready, BadSetup}
 use Rattle.device.specs.declared.set_up.Configured.{Configured}
-use Rattle.device.specs.State.{isText, textFrom, fresh}
+use Rattle.device.specs.State.{isText, textFrom, fresh, addressSize, maxLinks, maxText, maxVendor}
 
 -- 01's number of an answer, and the box
 pub record Report : Type 0 where
@@ -26,14 +26,14 @@ reported c = record { number = numberOf (c .answer); device = c .device }
 -- "Links 1 to 4 .., vendor 0 to 2,097,151, version text 0 to 32 octets without a zero, hardware address of 8 octets"
 unfoldable pub isSetup : ℕ → ℕ → List ℕ → List ℕ → Bool
 isSetup links vendor text address =
-    leb 1 links && (leb links 4 && (leb vendor 2097151 && (isText 32 text && eqb (length address) 8)))
+    leb 1 links && (leb links maxLinks && (leb vendor maxVendor && (isText maxText text && eqb (length address) addressSize)))
 
 abbrev pub settingsFrom : ℕ → ℕ → List ℕ → List ℕ → Settings
 settingsFrom links vendor text address = record { links = links; vendor = vendor; text = textFrom text; address = address }
 
 -- "14 returns a fresh box of one link, vendor 0, empty text, zero address"
 unfoldable pub refusal : Report
-refusal = record { number = 14; device = fresh (settingsFrom 1 0 [] (replicate 8 0)) }
+refusal = record { number = 14; device = fresh (settingsFrom 1 0 [] (replicate addressSize 0)) }
 
 -- "anything else is 14"
 unfoldable pub setupFor : ℕ → ℕ → List ℕ → List ℕ → Report

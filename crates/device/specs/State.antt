@@ -6,6 +6,7 @@ use lib.Dec.{eqb, ltb, leb}
 use lib.ListN.{length, take, replicate}
 use Rattle.octets.specs.Finding.{before}
 use Rattle.octets.specs.Padding.{pad}
+use Rattle.property.specs.Status.{resetStatus}
 use Rattle.property.specs.Number.{numbers}
 use Rattle.device.specs.declared.state.Text.{Text}
 use Rattle.device.specs.declared.state.Held.{Held}
@@ -13,13 +14,44 @@ use Rattle.device.specs.declared.state.Link.{Link}
 use Rattle.device.specs.declared.state.Settings.{Settings}
 use Rattle.device.specs.declared.state.Device.{Device}
 
+-- ---- limits
+
+-- "Links 1 to 4 .., vendor 0 to 2,097,151, version text 0 to 32 octets .., hardware address of 8 octets"
+abbrev pub maxLinks : ℕ
+maxLinks = 4
+
+abbrev pub maxVendor : ℕ
+maxVendor = 2097151
+
+abbrev pub maxText : ℕ
+maxText = 32
+
+abbrev pub addressSize : ℕ
+addressSize = 8
+
+-- 68 network name, "0 to 16 octets"
+abbrev pub maxName : ℕ
+maxName = 16
+
+-- 92 assisting ports, "up to 8"
+abbrev pub maxPorts : ℕ
+maxPorts = 8
+
+-- the octets of either
+abbrev pub maxHeld : ℕ
+maxHeld = 16
+
+-- step 9, "a reply body over 61 octets: 7"
+abbrev pub maxReply : ℕ
+maxReply = 61
+
 -- ---- octets in their arrays, and back
 
 abbrev pub textFrom : List ℕ → Text
-textFrom xs = record { octets = pad 32 xs; len = length xs }
+textFrom xs = record { octets = pad maxText xs; len = length xs }
 
 abbrev pub heldFrom : List ℕ → Held
-heldFrom xs = record { octets = pad 16 xs; len = length xs }
+heldFrom xs = record { octets = pad maxHeld xs; len = length xs }
 
 abbrev pub textOf : Text → List ℕ
 textOf t = take (t .len) (t .octets)
@@ -61,7 +93,7 @@ defaults = map (λ n. n .default) numbers
 
 -- last status 114, every number's default, no name and no ports
 abbrev pub freshLink : Link
-freshLink = record { status = 114; numbers = defaults; name = heldFrom []; ports = heldFrom [] }
+freshLink = record { status = resetStatus; numbers = defaults; name = heldFrom []; ports = heldFrom [] }
 
 -- the value past the end of the links
 abbrev pub noLink : Link
@@ -69,4 +101,4 @@ noLink = record { status = 0; numbers = []; name = record { octets = []; len = 0
 
 -- power state 4
 unfoldable pub fresh : Settings → Device
-fresh s = record { settings = s; power = 4; links = replicate 4 freshLink }
+fresh s = record { settings = s; power = 4; links = replicate maxLinks freshLink }

@@ -13,7 +13,7 @@ use property::status;
 ghost use mathlib.Core.Path.{_≡_};
 ghost use lib.ListN.{getD};
 ghost use Rattle.octets.specs.Scanning.{allBelow};
-ghost use Rattle.device.specs.State.{noLink};
+ghost use Rattle.device.specs.State.{noLink, maxLinks};
 ghost use Rattle.device.specs.Rules.{padded, textRule, portsRule, inRange, atDefaults, stackRule, linkRule, isFresh, settingsRule, linkKept, rules};
 
 // Whether a count is within its array, and zeros stand past it.
@@ -144,7 +144,7 @@ fn link_is_kept(link: Link, k: usize, links: usize) -> bool
 }
 
 fn links_keep(links: [Link; Device::MAX_LINKS], count: usize) -> bool
-    ensures { λ r. ⌜ r ≡ allBelow 4 (λ k. linkKept count (getD links k noLink) k) ⌝ }
+    ensures { λ r. ⌜ r ≡ allBelow maxLinks (λ k. linkKept count (getD links k noLink) k) ⌝ }
 {
     let mut k: usize = 0;
     while k < Device::MAX_LINKS {

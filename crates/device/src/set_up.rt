@@ -5,6 +5,7 @@ use crate::state::Text;
 use octets::write_octets;
 ghost use mathlib.Core.Path.{_≡_};
 ghost use lib.ListN.{length};
+ghost use Rattle.device.specs.State.{addressSize};
 ghost use Rattle.device.specs.Setup.{reported, refusal, setupFor};
 
 // 01's numbers: 0 and 14.
@@ -19,7 +20,7 @@ pub struct Configured {
 }
 
 fn address_of(octets: &[u8]) -> [u8; Device::ADDRESS]
-    requires { ⌜ length (now octets) ≡ 8 ⌝ }
+    requires { ⌜ length (now octets) ≡ addressSize ⌝ }
     ensures { λ r. ⌜ r ≡ now (octets .entry) ⌝ }
 {
     let mut address = [0u8; Device::ADDRESS];

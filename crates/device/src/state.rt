@@ -6,7 +6,7 @@ ghost use mathlib.Core.Path.{_≡_};
 ghost use mathlib.Core.List.{_++_};
 ghost use Prim.Native.Nat.{_+_, _≤_};
 ghost use lib.ListN.{length};
-ghost use Rattle.device.specs.State.{heldFrom, textFrom, freshLink, fresh};
+ghost use Rattle.device.specs.State.{heldFrom, textFrom, freshLink, fresh, maxHeld, maxText};
 
 // The version text that setup gave.
 pub struct Text {
@@ -45,7 +45,7 @@ pub struct Device {
 
 impl Text {
     pub fn of(octets: &[u8]) -> Text
-        requires { ⌜ length (now octets) ≤ 32 ⌝ }
+        requires { ⌜ length (now octets) ≤ maxText ⌝ }
         ensures { λ r. ⌜ r ≡ textFrom (now (octets .entry)) ⌝ }
     {
         let mut padded = [0u8; Device::MAX_TEXT];
@@ -60,7 +60,7 @@ impl Text {
 impl Held {
     // Two runs of octets, the second right behind the first.
     pub fn of(first: &[u8], second: &[u8]) -> Held
-        requires { ⌜ length (now first) + length (now second) ≤ 16 ⌝ }
+        requires { ⌜ length (now first) + length (now second) ≤ maxHeld ⌝ }
         ensures { λ r. ⌜ r ≡ heldFrom (now (first .entry) ++ now (second .entry)) ⌝ }
     {
         let mut padded = [0u8; Link::MAX_HELD];

@@ -4,6 +4,7 @@ use crate::state::Link;
 use crate::state::Settings;
 ghost use mathlib.Core.Path.{_≡_};
 ghost use Prim.Native.Nat.{_<_};
+ghost use Rattle.device.specs.State.{maxLinks};
 ghost use Rattle.device.specs.View.{powerAfter, after, viewOf};
 
 // One link and the values that all links share; no other link.
@@ -33,7 +34,7 @@ fn power_after(power: u8, effect: Effect) -> u8
 impl View {
     // What link `k` sees.
     pub fn of(device: Device, k: usize) -> View
-        requires { ⌜ k < 4 ⌝ }
+        requires { ⌜ k < maxLinks ⌝ }
         ensures { λ r. ⌜ r ≡ viewOf k device ⌝ }
     {
         let settings = device.settings;

@@ -10,7 +10,7 @@ use lib.ListN.{length, getD, set, length-set}
 use lib.Seq.{getD-set-same, getD-set-other}
 use Rattle.octets.proofs.LawsTests.{by-test, chosen, and-r}
 use Rattle.property.specs.Number.{powerState, within}
-use Rattle.device.specs.State.{noLink}
+use Rattle.device.specs.State.{noLink, maxLinks}
 use Rattle.device.specs.Rules.{linkRule, linkKept, rules}
 use Rattle.device.specs.declared.state.Link.{Link}
 use Rattle.device.specs.declared.state.Device.{Device}
@@ -40,7 +40,7 @@ sane b =
     (λ _. tt))
 
 module _ (d : Device) (t : rules d ≡ true) (k : ℕ) (l : Link) (up : k < d .settings .links) (rule : linkRule l ≡ true) where
-  links-kept : (j : ℕ) → j < 4 → linkKept (d .settings .links) (getD (set (d .links) k l) j noLink) j ≡ true
+  links-kept : (j : ℕ) → j < maxLinks → linkKept (d .settings .links) (getD (set (d .links) k l) j noLink) j ≡ true
   links-kept j h =
       by-test (eqb j k)
       (λ e. let same : j ≡ k = eqb-true j k e in

@@ -14,7 +14,7 @@ use lib.Seq.{getD-set-same, getD-set-other}
 use Rattle.octets.specs.Runs.{each, emitted}
 use Rattle.octets.proofs.LawsRuns.{emitted-append}
 use Rattle.octets.proofs.LawsTests.{by-test}
-use Rattle.device.specs.State.{freshLink, noLink, fresh}
+use Rattle.device.specs.State.{freshLink, noLink, fresh, maxLinks}
 use Rattle.device.specs.Rules.{rules}
 use Rattle.device.specs.declared.state.Link.{Link}
 use Rattle.device.specs.declared.state.Device.{Device}
@@ -31,7 +31,7 @@ use Rattle.engine.specs.Merged.{deviceStep, deviceAfter, whole, effectIt
 
 -- ---- one body
 
-module _ (d : Device) (size : length (d .links) ≡ 4) (k : ℕ) (few : k < 4) where
+module _ (d : Device) (size : length (d .links) ≡ maxLinks) (k : ℕ) (few : k < maxLinks) where
   view-own : (e : Effect) (l : Link) → viewOf k (affect e d k l) ≡ moved e (viewOf k d) l
   unfolding affect moved fresh
   view-own None l = cc (getD-set-same (d .links) k l noLink (omega (arith, size)))
@@ -50,7 +50,7 @@ affect-settings None d j l = refl
 affect-settings Reset d j l = refl
 affect-settings (Powered x) d j l = refl
 
-affect-four : (e : Effect) (d : Device) (j : ℕ) (l : Link) → length (d .links) ≡ 4 → length (affect e d j l .links) ≡ 4
+affect-four : (e : Effect) (d : Device) (j : ℕ) (l : Link) → length (d .links) ≡ maxLinks → length (affect e d j l .links) ≡ maxLinks
 unfolding affect fresh
 affect-four None d j l h = length-set (d .links) j l ∙ h
 affect-four Reset d j l h = refl
@@ -73,18 +73,18 @@ step-settings d b =
     (λ e. ap (λ x. x .settings) (body-set-up d b e) ∙ affect-settings (effectOf b) d (linkOf b) (decide (viewOf (linkOf b) d) b .link))
     (λ e. ap (λ x. x .settings) (body-not-set-up d b e))
 
-step-four : (d : Device) (b : List ℕ) → length (d .links) ≡ 4 → length (deviceStep d b .links) ≡ 4
+step-four : (d : Device) (b : List ℕ) → length (d .links) ≡ maxLinks → length (deviceStep d b .links) ≡ maxLinks
 step-four d b h =
     by-test (isSetUp (d .settings) b)
     (λ e. rw (body-set-up d b e) (affect-four (effectOf b) d (linkOf b) (decide (viewOf (linkOf b) d) b .link) h))
     (λ e. rw (body-not-set-up d b e) h)
 
-link-below : (b : List ℕ) → linkOf b < 4
+link-below : (b : List ℕ) → linkOf b < maxLinks
 unfolding linkOf
 link-below b = omega arith
 
 -- the view of a link after a body of its own
-step-own : (d : Device) (b : List ℕ) → length (d .links) ≡ 4 → viewOf (linkOf b) (deviceStep d b) ≡ viewStep (viewOf (linkOf b) d) (whole b)
+step-own : (d : Device) (b : List ℕ) → length (d .links) ≡ maxLinks → viewOf (linkOf b) (deviceStep d b) ≡ viewStep (viewOf (linkOf b) d) (whole b)
 unfolding viewStep
 step-own d b h =
     by-test (isSetUp (d .settings) b)
@@ -92,7 +92,7 @@ step-own d b h =
     (λ e. cc (body-not-set-up d b e))
 
 -- and after a body of another link: only what its octets say, a reset, a power setting or nothing
-pub other-link : (d : Device) (b : List ℕ) (k : ℕ) → length (d .links) ≡ 4 → k < 4 → k ≢ linkOf b
+pub other-link : (d : Device) (b : List ℕ) (k : ℕ) → length (d .links) ≡ maxLinks → k < maxLinks → k ≢ linkOf b
     → viewOf k (deviceStep d b) ≡ viewAfter (viewOf k d) (cond (isSetUp (d .settings) b) (effectItem (effectOf b)) [])
 unfolding viewAfter effectItem viewStep moved
 other-link d b k h few n =
@@ -107,7 +107,7 @@ other-link d b k h few n =
     by (Powered x) = unfold moved effectItem viewStep in refl
 
 -- both at once: the view of link k goes on by what the body is to it
-step-view : (d : Device) (b : List ℕ) (k : ℕ) → length (d .links) ≡ 4 → k < 4
+step-view : (d : Device) (b : List ℕ) (k : ℕ) → length (d .links) ≡ maxLinks → k < maxLinks
     → viewOf k (deviceStep d b) ≡ viewAfter (viewOf k d) (itemOf (d .settings) k b)
 unfolding itemOf viewAfter
 step-view d b k h few =
@@ -148,7 +148,7 @@ unfolding deviceAfter
 settings-after d [] = refl
 settings-after d (b ∷ bs) = settings-after (deviceStep d b) bs ∙ step-settings d b
 
-pub view-after : (k : ℕ) → k < 4 → (d : Device) (bs : List (List ℕ)) → length (d .links) ≡ 4
+pub view-after : (k : ℕ) → k < maxLinks → (d : Device) (bs : List (List ℕ)) → length (d .links) ≡ maxLinks
     → viewOf k (deviceAfter d bs) ≡ viewAfter (viewOf k d) (merged (d .settings) k bs)
 unfolding deviceAfter viewAfter merged
 view-after k few d [] h = refl
@@ -157,7 +157,7 @@ view-after k few d (b ∷ bs) h =
     rest ∙ ap₂ (λ v s. foldl viewStep v (each (itemOf s k) bs)) (step-view d b k h few) (step-settings d b)
     ∙ sym (foldl-append viewStep (viewOf k d) (itemOf (d .settings) k b) (each (itemOf (d .settings) k) bs))
 
-pub replies-after : (k : ℕ) → k < 4 → (d : Device) (bs : List (List ℕ)) → length (d .links) ≡ 4
+pub replies-after : (k : ℕ) → k < maxLinks → (d : Device) (bs : List (List ℕ)) → length (d .links) ≡ maxLinks
     → repliesOn k d bs ≡ viewReplies (viewOf k d) (merged (d .settings) k bs)
 unfolding repliesOn viewReplies merged viewAfter
 replies-after k few d [] h = refl
@@ -168,7 +168,7 @@ replies-after k few d (b ∷ bs) h =
     ∙ sym (emitted-append itemReplies viewStep (viewOf k d) (itemOf (d .settings) k b) (each (itemOf (d .settings) k) bs))
 
 -- links are separate: the same merged sequence leaves link k the same view and gives it the same replies
-pub separation : (k : ℕ) → k < 4 → (d e : Device) (bs cs : List (List ℕ))
+pub separation : (k : ℕ) → k < maxLinks → (d e : Device) (bs cs : List (List ℕ))
     → rules d ≡ true → rules e ≡ true → viewOf k d ≡ viewOf k e
     → merged (d .settings) k bs ≡ merged (e .settings) k cs
     → (viewOf k (deviceAfter d bs) ≡ viewOf k (deviceAfter e cs)) × (repliesOn k d bs ≡ repliesOn k e cs)

@@ -2,12 +2,13 @@
 use Prim.Native.Nat.{ℕ}
 use mathlib.Core.List.{List, [], _∷_}
 use lib.ListN.{replicate}
+use Rattle.device.specs.State.{addressSize}
 use Rattle.device.specs.Setup.{setupFor}
 use Rattle.device.specs.declared.state.Device.{Device}
 
 -- "Fresh box with two links before each line"
 unfoldable pub freshBox : Device
-freshBox = setupFor 2 0 [] (replicate 8 0) .device
+freshBox = setupFor 2 0 [] (replicate addressSize 0) .device
 
 -- bodies joined by "then", and their replies
 pub record Line : Type 0 where

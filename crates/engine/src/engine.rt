@@ -10,7 +10,9 @@ ghost use mathlib.Core.Bool.{true};
 ghost use mathlib.Core.Path.{_≡_};
 ghost use Prim.Native.Nat.{_≤_, _<_, _/_};
 ghost use lib.ListN.{length};
+ghost use Rattle.octets.specs.Body.{maxBody, minBody};
 ghost use Rattle.octets.specs.Writing.{Wrote};
+ghost use Rattle.device.specs.State.{maxLinks, maxReply};
 ghost use Rattle.device.specs.Rules.{rules};
 ghost use Rattle.request.specs.Verdict.{headerOf};
 ghost use Rattle.engine.specs.Engine.{affect, engine};
@@ -22,7 +24,7 @@ pub struct Answered {
 }
 
 fn affected(device: Device, k: usize, effect: Effect, link: Link) -> Device
-    requires { ⌜ k < 4 ⌝ }
+    requires { ⌜ k < maxLinks ⌝ }
     ensures { λ r. ⌜ r ≡ affect effect device k link ⌝ }
 {
     let mut changed = device;
@@ -39,8 +41,8 @@ fn affected(device: Device, k: usize, effect: Effect, link: Link) -> Device
 
 pub fn answer(device: Device, body: &[u8], out: &mut [u8]) -> Answered
     requires rules { ⌜ rules device ≡ true ⌝ }
-    requires body { ⌜ (2 ≤ length (now body)) × (length (now body) ≤ 1300) × (headerOf (now body) / 64 ≡ 2) ⌝ }
-    requires room { ⌜ 61 ≤ length (now out) ⌝ }
+    requires body { ⌜ (minBody ≤ length (now body)) × (length (now body) ≤ maxBody) × (headerOf (now body) / 64 ≡ 2) ⌝ }
+    requires room { ⌜ maxReply ≤ length (now out) ⌝ }
     ensures device { λ r. ⌜ r .device ≡ engine device (now (body .entry)) .device ⌝ }
     ensures reply { λ r. ⌜ Wrote (now (out .entry)) (now (out .exit)) 0 (r .len) (engine device (now (body .entry)) .reply) ⌝ }
 {

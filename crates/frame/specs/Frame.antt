@@ -1,17 +1,13 @@
 -- A written frame (01, Octets on the wire): "a flag, the escaped body and check, and a flag".
 use mathlib.Core.Bool.{cond, _||_}
 use mathlib.Core.List.{List, [], _∷_, _++_}
-use Prim.Native.Nat.{ℕ, _≤_}
+use Prim.Native.Nat.{ℕ}
 use lib.Bits.{bitXor}
 use lib.ListN.{length, drop}
 use Rattle.octets.specs.Runs.{each}
 use Rattle.octets.specs.LittleEndian.{leOctets}
 use Rattle.frame.specs.Kind.{isFlag, isEscape, isSkipped}
 use Rattle.frame.specs.Fcs.{fcs}
-
--- "Bodies have 2 to 1,300 octets"
-abbrev pub Body : List ℕ → Type 0
-Body body = (2 ≤ length body) × (length body ≤ 1300)
 
 -- "7D and then the octet xor 0x20 for each of 7E, 7D, 11, 13, F8"; any other octet as it is
 unfoldable pub sent : ℕ → List ℕ

@@ -7,8 +7,9 @@ use octets::write_octet;
 ghost use mathlib.Core.Path.{_≡_};
 ghost use Prim.Native.Nat.{_+_, _≤_};
 ghost use lib.ListN.{length};
+ghost use Rattle.octets.specs.Body.{Body};
 ghost use Rattle.octets.specs.Writing.{Wrote};
-ghost use Rattle.frame.specs.Frame.{sent, stuffed, frame, Body, written, writing};
+ghost use Rattle.frame.specs.Frame.{sent, stuffed, frame, written, writing};
 
 // One octet, escaped where it must be.
 fn write_escaped(out: &mut [u8], at: usize, octet: u8) -> usize

@@ -9,6 +9,7 @@ use borrow.Author.Tests.{ltb-false}
 use lib.Dec.{ltb, eqb}
 use lib.ListN.{length, getD, List·getD-append}
 use lib.Seq.{getD-take}
+use Rattle.octets.specs.Body.{maxBody, minBody}
 use Rattle.octets.proofs.LawsTests.{by-test, impossible}
 use Rattle.hdlc.specs.declared.reader.Fate.{Fate}
 use Rattle.hdlc.specs.declared.reader.Fate.the-variants.{Unfinished, Checked, Short, WrongCheck, TooLong, CutEscape, BadHeader}
@@ -23,7 +24,7 @@ use Rattle.hdlc.proofs.LawsCalls.{call-verdict}
 use Rattle.hdlc.proofs.ClosedForm.{closed-form}
 
 -- of the piece that a call ended in
-piece-checked : (p a : List ℕ) (n : ℕ) → pieceFate p ≡ Checked n → (2 ≤ n) × (n ≤ 1300) × (getD (over (gathered p) a) 0 0 / 64 ≡ 2)
+piece-checked : (p a : List ℕ) (n : ℕ) → pieceFate p ≡ Checked n → (minBody ≤ n) × (n ≤ maxBody) × (getD (over (gathered p) a) 0 0 / 64 ≡ 2)
 unfolding pieceFate
 piece-checked p a n =
     let g = gathered p in
@@ -38,7 +39,7 @@ piece-checked p a n =
     rw (List·getD-append g _ 0 0 (omega arith)) (omega arith, omega (arith, ltb-false), j .2)))))))
 
 pub checked-body : (r : Reader) (a xs : List ℕ) (n : ℕ) → Rules r → maxGathered ≤ length a → run (assembling r a) xs .fate ≡ Checked n
-    → (2 ≤ n) × (n ≤ 1300) × (getD (run (assembling r a) xs .state .assembly) 0 0 / 64 ≡ 2)
+    → (minBody ≤ n) × (n ≤ maxBody) × (getD (run (assembling r a) xs .state .assembly) 0 0 / 64 ≡ 2)
 unfolding closedForm
 checked-body r a xs n keeps room =
     let p = openPiece r a in
@@ -52,7 +53,7 @@ checked-top r a xs keeps room =
     let o = run (assembling r a) xs in
     by (o .fate) (o .state .assembly) (λ n. checked-body r a xs n keeps room)
   where
-    by : (f : Fate) (g : List ℕ) → ((n : ℕ) → f ≡ Checked n → (2 ≤ n) × (n ≤ 1300) × (getD g 0 0 / 64 ≡ 2))
+    by : (f : Fate) (g : List ℕ) → ((n : ℕ) → f ≡ Checked n → (minBody ≤ n) × (n ≤ maxBody) × (getD g 0 0 / 64 ≡ 2))
         → eqb (fateNumber f) 1 ≡ true → getD (bodyIn f g) 0 0 / 64 ≡ 2
     by Unfinished g t e = impossible cc
     by (Checked n) g t e = let b = t n refl in ap (λ h. h / 64) (getD-take n g 0 0 (omega arith)) ∙ b .2

@@ -8,12 +8,13 @@ use Prim.Native.Nat.{ℕ, suc, _+_, _≤_}
 use native.Mathlib.Omega.{arith}
 use lib.ListN.{length, drop, drop-of-length-le}
 use lib.Seq.{drop-length}
+use Rattle.octets.specs.Body.{Body}
 use Rattle.octets.specs.Octets.{Octets}
 use Rattle.octets.specs.LittleEndian.{leOctets}
 use Rattle.octets.proofs.LawsTests.{by-test}
 use Rattle.frame.specs.Fcs.{fcs}
 use Rattle.frame.specs.Kind.{isFlag}
-use Rattle.frame.specs.Frame.{Body, checked, frame}
+use Rattle.frame.specs.Frame.{checked, frame}
 use Rattle.hdlc.specs.declared.reader.Reader.{Reader}
 use Rattle.hdlc.specs.Reader.{decided, headed, maxGathered, fresh, Assembling, assembling, afterOctet, flagFate, fateAt, Outcome, outcome, later, run}
 use Rattle.hdlc.specs.Wire.{Fated, fated}

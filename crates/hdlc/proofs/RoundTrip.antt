@@ -8,13 +8,14 @@ use native.Mathlib.Omega.{arith}
 use borrow.Author.Tests.{le-ltb, eq-eqb, ne-eqb}
 use lib.ListN.{length, take, drop, length-append}
 use lib.Seq.{take-at, drop-at, take-all, take-length}
+use Rattle.octets.specs.Body.{Body}
 use Rattle.octets.specs.Octets.{Octets}
 use Rattle.octets.specs.LittleEndian.{le, leAt, leOctets}
 use Rattle.octets.proofs.LawsLittleEndian.{length-le}
 use Rattle.octets.proofs.LittleEndianRoundTrip.{number-back}
 use Rattle.frame.specs.Fcs.{fcs}
 use Rattle.frame.specs.Kind.{isFlag}
-use Rattle.frame.specs.Frame.{Body, stuffed, checked, frame}
+use Rattle.frame.specs.Frame.{stuffed, checked, frame}
 use Rattle.frame.proofs.LawsFcs.{fcs-bound}
 use Rattle.frame.proofs.LawsFrame.{checked-length}
 use Rattle.hdlc.specs.Reader.{later, bodyOf, checkOf, frameFate, headed, maxGathered, fresh, assembling, outcome, run}

@@ -5,6 +5,7 @@ use Prim.Native.Nat.{ℕ, _+_, _-_, _/_}
 use lib.Dec.{ltb, eqb}
 use lib.ListN.{length, take, getD, set}
 use lib.Bits.{bitXor}
+use Rattle.octets.specs.Body.{maxBody}
 use Rattle.octets.specs.LittleEndian.{leAt}
 use Rattle.frame.specs.Kind.{isFlag, isEscape, isSkipped}
 use Rattle.frame.specs.Fcs.{fcs}
@@ -53,7 +54,7 @@ frameFate g = cond (ltb (length g) 4) Short (cond (eqb (checkOf g) (fcs (bodyOf 
 
 -- "at most 1,302 are gathered with the check"
 abbrev pub maxGathered : ℕ
-maxGathered = 1302
+maxGathered = maxBody + 2
 
 -- a reader that has gathered n octets, with an escape pending or not
 abbrev pub gathering : ℕ → Bool → Reader

@@ -8,11 +8,11 @@ use Rattle.octets.specs.Finding.{before}
 use Rattle.octets.specs.LittleEndian.{le}
 use Rattle.octets.proofs.LawsTests.{chosen}
 use Rattle.property.specs.Number.{numberAt}
-use Rattle.property.specs.declared.row.Command.{Command}
-use Rattle.property.specs.declared.row.Command.the-variants.{Get, Set, Insert, Remove}
+use Rattle.property.specs.declared.commands.Command.{Command}
+use Rattle.property.specs.declared.commands.Command.the-variants.{Get, Set, Insert, Remove}
 use Rattle.property.specs.declared.row.Kind.{Kind}
 use Rattle.property.specs.declared.row.Kind.the-variants.{ReadOnly, Power, Number as Kind·Number, Name, Ports}
-use Rattle.device.specs.State.{isText, portsIn, holds, distinct}
+use Rattle.device.specs.State.{isText, portsIn, holds, distinct, maxName, maxPorts}
 use Rattle.device.specs.declared.state.Link.{Link}
 use Rattle.device.specs.declared.view.Effect.the-variants.{None}
 use Rattle.method.specs.declared.outcome.Outcome.{Outcome}
@@ -49,12 +49,12 @@ set-still l Power p h = absurd (h refl)
 set-still l (Kind·Number slot) p h = number-still l slot (valueIn (numberAt slot) p)
 set-still l Name p h =
     chosen Still (eqb (suc (before 0 p)) (length p))
-    (λ _. chosen Still (isText 16 (take (before 0 p) p)) (λ _. still-done _) (λ _. still-refused l 3))
+    (λ _. chosen Still (isText maxName (take (before 0 p) p)) (λ _. still-done _) (λ _. still-refused l 3))
     (λ _. still-refused l 9)
 set-still l Ports p h =
     chosen Still (eqb (length p % 2) 0)
     (λ _. chosen Still (distinct (portsIn p))
-    (λ _. chosen Still (ltb 8 (length (portsIn p))) (λ _. still-refused l 11) (λ _. still-done _))
+    (λ _. chosen Still (ltb maxPorts (length (portsIn p))) (λ _. still-refused l 11) (λ _. still-done _))
     (λ _. still-refused l 3))
     (λ _. still-refused l 9)
 
@@ -65,7 +65,7 @@ perform-still l Set k p h = set-still l k p (h refl)
 perform-still l Insert k p h =
     chosen Still (eqb (length p) 2)
     (λ _. chosen Still (holds (le p) (portsHeld l)) (λ _. still-refused l 19)
-    (λ _. chosen Still (ltb (length (portsHeld l)) 8) (λ _. still-done _) (λ _. still-refused l 11)))
+    (λ _. chosen Still (ltb (length (portsHeld l)) maxPorts) (λ _. still-done _) (λ _. still-refused l 11)))
     (λ _. still-refused l 9)
 perform-still l Remove k p h =
     chosen Still (eqb (length p) 2) (λ _. chosen Still (holds (le p) (portsHeld l)) (λ _. still-done _) (λ _. still-refused l 20)) (λ _. still-refused l 9)

@@ -14,14 +14,15 @@ use Rattle.octets.specs.Padding.{pad}
 use Rattle.octets.proofs.LawsPadding.{pad-length, pad-front, pad-zeros}
 use Rattle.octets.proofs.LawsScanning.{all-at, all-of}
 use Rattle.octets.proofs.LawsTests.{by-test, chosen, and-l, and-r, impossible}
-use Rattle.property.specs.Number.{numberAt, powerState, within}
+use Rattle.property.specs.Status.{maxStatus}
+use Rattle.property.specs.Number.{numberAt, powerState, within, slotCount}
 use Rattle.property.specs.declared.number.Number.{Number as Numeric}
-use Rattle.property.specs.declared.row.Command.{Command}
-use Rattle.property.specs.declared.row.Command.the-variants.{Get, Set, Insert, Remove}
+use Rattle.property.specs.declared.commands.Command.{Command}
+use Rattle.property.specs.declared.commands.Command.the-variants.{Get, Set, Insert, Remove}
 use Rattle.property.specs.declared.row.Kind.{Kind}
 use Rattle.property.specs.declared.row.Kind.the-variants.{ReadOnly, Power, Number, Name, Ports}
 use Rattle.property.proofs.TableRule.{numbers-keep, outside-most}
-use Rattle.device.specs.State.{heldFrom, octetsOf, isText, portsIn, holds, distinct}
+use Rattle.device.specs.State.{heldFrom, octetsOf, isText, portsIn, holds, distinct, maxHeld, maxName, maxPorts}
 use Rattle.device.specs.Rules.{padded, portsRule, inRange, stackRule, sized, linkRule}
 use Rattle.device.specs.declared.state.Link.{Link}
 use Rattle.device.proofs.LawsPorts.{ports-length}
@@ -40,7 +41,7 @@ use Rattle.method.proofs.LawsItems.{distinct-snoc, distinct-less, ports
 -- a status that a link can hold
 abbrev pub SmallStatus : Outcome → Type 0
 SmallStatus (Done e) = Unit {0}
-SmallStatus (Refused s) = leb s 127 ≡ true
+SmallStatus (Refused s) = leb s maxStatus ≡ true
 
 pub record Kept (l : Link) (r : Performed) : Type 0 where
   pub facts : LinkFacts (r .link)
@@ -49,23 +50,23 @@ pub record Kept (l : Link) (r : Performed) : Type 0 where
 
 -- ---- what is put into its array keeps its rule
 
-ports-held : (xs : List ℕ) → length xs ≤ 16 → length xs % 2 ≡ 0 → distinct (portsIn xs) ≡ true → portsRule (pad 16 xs) (length xs) ≡ true
+ports-held : (xs : List ℕ) → length xs ≤ maxHeld → length xs % 2 ≡ 0 → distinct (portsIn xs) ≡ true → portsRule (pad maxHeld xs) (length xs) ≡ true
 unfolding portsRule padded
-ports-held xs few even d = rw (pad-length 16 xs few, le-leb (length xs) 16 few, pad-zeros 16 xs, eq-eqb _ _ even, pad-front 16 xs, d)
+ports-held xs few even d = rw (pad-length maxHeld xs few, le-leb (length xs) maxHeld few, pad-zeros maxHeld xs, eq-eqb _ _ even, pad-front maxHeld xs, d)
 
-sized-with : (l : Link) (xs : List ℕ) → length xs ≤ 16 → sized l ≡ true
+sized-with : (l : Link) (xs : List ℕ) → length xs ≤ maxHeld → sized l ≡ true
     → (sized (withName l (heldFrom xs)) ≡ true) × (sized (withPorts l (heldFrom xs)) ≡ true)
 unfolding sized
 sized-with l xs few t =
-    let rest = and-r (eqb (length (l .numbers)) 9) _ t in
-    let nine = and-l (eqb (length (l .numbers)) 9) _ t in
-    let name = and-l (eqb (length (l .name .octets)) 16) _ rest in
-    let ports = and-r (eqb (length (l .name .octets)) 16) _ rest in
-    (rw (pad-length 16 xs few, nine, ports), rw (pad-length 16 xs few, nine, name))
+    let rest = and-r (eqb (length (l .numbers)) slotCount) _ t in
+    let nine = and-l (eqb (length (l .numbers)) slotCount) _ t in
+    let name = and-l (eqb (length (l .name .octets)) maxHeld) _ rest in
+    let ports = and-r (eqb (length (l .name .octets)) maxHeld) _ rest in
+    (rw (pad-length maxHeld xs few, nine, ports), rw (pad-length maxHeld xs few, nine, name))
 
 -- ---- numbers
 
-bad-small : (n : Numeric) (p : List ℕ) (s : ℕ) → leb (n .outside) 127 ≡ true → valueIn n p ≡ Bad s → leb s 127 ≡ true
+bad-small : (n : Numeric) (p : List ℕ) (s : ℕ) → leb (n .outside) maxStatus ≡ true → valueIn n p ≡ Bad s → leb s maxStatus ≡ true
 unfolding valueIn
 bad-small n p s h e =
     by-test (eqb (length p) (n .width))
@@ -91,26 +92,26 @@ module _ (l : Link) (t : linkRule l ≡ true) where
   kept-done : Kept l (done l)
   kept-done = record { facts = f; same = refl; small = tt }
 
-  kept-refused : (s : ℕ) → leb s 127 ≡ true → Kept l (refused l s)
+  kept-refused : (s : ℕ) → leb s maxStatus ≡ true → Kept l (refused l s)
   kept-refused s h = record { facts = f; same = refl; small = h }
 
-  kept-name : (xs : List ℕ) → isText 16 xs ≡ true → Kept l (done (withName l (heldFrom xs)))
+  kept-name : (xs : List ℕ) → isText maxName xs ≡ true → Kept l (done (withName l (heldFrom xs)))
   kept-name xs h =
-      let few = text-told 16 xs h in
+      let few = text-told maxName xs h in
       record {
         facts = record {
           sized = sized-with l xs few (f .sized) .0;
           status = f .status;
           range = f .range;
           stack = f .stack;
-          name = text-pad 16 xs few ∙ h;
+          name = text-pad maxHeld xs few ∙ h;
           ports = f .ports;
         };
         same = refl;
         small = tt;
       }
 
-  kept-ports : (xs : List ℕ) → length xs ≤ 16 → length xs % 2 ≡ 0 → distinct (portsIn xs) ≡ true → Kept l (done (withPorts l (heldFrom xs)))
+  kept-ports : (xs : List ℕ) → length xs ≤ maxHeld → length xs % 2 ≡ 0 → distinct (portsIn xs) ≡ true → Kept l (done (withPorts l (heldFrom xs)))
   kept-ports xs few even d =
       record {
         facts = record {
@@ -129,7 +130,7 @@ module _ (l : Link) (t : linkRule l ≡ true) where
   unfolding setName
   name-kept p =
       chosen (Kept l) (eqb (suc (before 0 p)) (length p))
-      (λ _. chosen (Kept l) (isText 16 (take (before 0 p) p)) (λ h. kept-name (take (before 0 p) p) h) (λ _. kept-refused 3 refl))
+      (λ _. chosen (Kept l) (isText maxName (take (before 0 p) p)) (λ h. kept-name (take (before 0 p) p) h) (λ _. kept-refused 3 refl))
       (λ _. kept-refused 9 refl)
 
   ports-kept : (p : List ℕ) → Kept l (setPorts l p)
@@ -137,9 +138,9 @@ module _ (l : Link) (t : linkRule l ≡ true) where
   ports-kept p =
       chosen (Kept l) (eqb (length p % 2) 0)
       (λ e. chosen (Kept l) (distinct (portsIn p))
-      (λ d. chosen (Kept l) (ltb 8 (length (portsIn p))) (λ _. kept-refused 11 refl)
+      (λ d. chosen (Kept l) (ltb maxPorts (length (portsIn p))) (λ _. kept-refused 11 refl)
       (λ h. let even = eqb-true (length p % 2) 0 e in
-      kept-ports p (omega (arith, ports-length p, ltb-false 8 (length (portsIn p)) h)) even d))
+      kept-ports p (omega (arith, ports-length p, ltb-false maxPorts (length (portsIn p)) h)) even d))
       (λ _. kept-refused 3 refl))
       (λ _. kept-refused 9 refl)
 
@@ -153,9 +154,9 @@ module _ (l : Link) (t : linkRule l ≡ true) where
       chosen (Kept l) (eqb (length p) 2)
       (λ e. let two = eqb-true (length p) 2 e in
       chosen (Kept l) (holds (le p) (portsIn xs)) (λ _. kept-refused 19 refl)
-      (λ h. chosen (Kept l) (ltb (length (portsIn xs)) 8)
+      (λ h. chosen (Kept l) (ltb (length (portsIn xs)) maxPorts)
       (λ g. let long = length-append xs p in
-      let few : length (xs ++ p) ≤ 16 = omega (arith, ports-length xs, ltb-true (length (portsIn xs)) 8 g, ports-even l t) in
+      let few : length (xs ++ p) ≤ maxHeld = omega (arith, ports-length xs, ltb-true (length (portsIn xs)) maxPorts g, ports-even l t) in
       let apart : distinct (portsIn (xs ++ p)) ≡ true = rw (ports-snoc xs p (ports-even l t) two) (distinct-snoc (le p) (portsIn xs) (ports-distinct l t) h) in
       kept-ports (xs ++ p) few (omega (arith, ports-even l t)) apart)
       (λ _. kept-refused 11 refl)))
@@ -176,16 +177,16 @@ module _ (l : Link) (t : linkRule l ≡ true) where
       (λ _. kept-refused 9 refl)
 
   -- one number changed to another of its range
-  range-set : (slot v : ℕ) → slot < 9 → within (numberAt slot) v ≡ true → inRange (set (l .numbers) slot v) ≡ true
+  range-set : (slot v : ℕ) → slot < slotCount → within (numberAt slot) v ≡ true → inRange (set (l .numbers) slot v) ≡ true
   unfolding inRange
   range-set slot v h w =
-      all-of 9 (λ k. within (numberAt k) (getD (set (l .numbers) slot v) k 0))
+      all-of slotCount (λ k. within (numberAt k) (getD (set (l .numbers) slot v) k 0))
       (λ k low. by-test (eqb k slot)
       (λ e. let same : k ≡ slot = eqb-true k slot e in
       rw (same, getD-set-same (l .numbers) slot v 0 (omega (arith, nine-numbers l t))) w)
-      (λ e. rw (getD-set-other (l .numbers) slot k v 0 (eqb-false k slot e)) (all-at 9 (λ j. within (numberAt j) (getD (l .numbers) j 0)) (f .range) k low)))
+      (λ e. rw (getD-set-other (l .numbers) slot k v 0 (eqb-false k slot e)) (all-at slotCount (λ j. within (numberAt j) (getD (l .numbers) j 0)) (f .range) k low)))
 
-  number-kept : (slot : ℕ) (x : PayloadNumber) (p : List ℕ) → slot < 9 → valueIn (numberAt slot) p ≡ x → Kept l (numberTo l slot x)
+  number-kept : (slot : ℕ) (x : PayloadNumber) (p : List ℕ) → slot < slotCount → valueIn (numberAt slot) p ≡ x → Kept l (numberTo l slot x)
   unfolding numberTo
   number-kept slot (Bad s) p h e = kept-refused s (bad-small (numberAt slot) p s (outside-most (numberAt slot) (numbers-keep slot h)) e)
   number-kept slot (Good v) p h e =
@@ -209,7 +210,7 @@ module _ (l : Link) (t : linkRule l ≡ true) where
   power-kept (Good x) p e = record { facts = f; same = refl; small = tt }
   power-kept (Bad s) p e = kept-refused s (bad-small powerState p s refl e)
 
-  set-kept : (k : Kind) (p : List ℕ) → ((slot : ℕ) → k ≡ Number slot → slot < 9) → Kept l (setKind l k p)
+  set-kept : (k : Kind) (p : List ℕ) → ((slot : ℕ) → k ≡ Number slot → slot < slotCount) → Kept l (setKind l k p)
   unfolding setKind setNumber setPower
   set-kept (ReadOnly x) p h = kept-refused 21 refl
   set-kept Power p h = power-kept (valueIn powerState p) p refl
@@ -217,7 +218,7 @@ module _ (l : Link) (t : linkRule l ≡ true) where
   set-kept Name p h = name-kept p
   set-kept Ports p h = ports-kept p
 
-  pub perform-kept : (c : Command) (k : Kind) (p : List ℕ) → ((slot : ℕ) → k ≡ Number slot → slot < 9) → Kept l (perform l c k p)
+  pub perform-kept : (c : Command) (k : Kind) (p : List ℕ) → ((slot : ℕ) → k ≡ Number slot → slot < slotCount) → Kept l (perform l c k p)
   unfolding perform getWith
   perform-kept Get k p h = chosen (Kept l) (eqb (length p) 0) (λ _. kept-done) (λ _. kept-refused 9 refl)
   perform-kept Set k p h = set-kept k p h

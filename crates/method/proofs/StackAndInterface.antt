@@ -11,7 +11,7 @@ use lib.ListN.{length, getD, set}
 use lib.Seq.{getD-set-same, getD-set-other}
 use Rattle.octets.proofs.LawsScanning.{all-at}
 use Rattle.octets.proofs.LawsTests.{by-test}
-use Rattle.property.specs.Number.{bool, numbers, numberAt, interfaceUp, stackUp, within}
+use Rattle.property.specs.Number.{bool, numbers, numberAt, interfaceUp, stackUp, within, slotCount}
 use Rattle.device.specs.Rules.{inRange, stackRule}
 use Rattle.method.specs.Perform.{conflicts}
 use Rattle.method.proofs.LawsNumbers.{within-most}
@@ -26,11 +26,11 @@ up-without zero (suc (suc n)) p q = absurd (omega arith)
 up-without (suc zero) (suc (suc n)) p q = absurd (omega arith)
 up-without (suc (suc n)) interface p q = absurd (omega arith)
 
-module _ (held : List ℕ) (nine : length held ≡ 9) (range : inRange held ≡ true) (stack : stackRule held ≡ true) where
+module _ (held : List ℕ) (nine : length held ≡ slotCount) (range : inRange held ≡ true) (stack : stackRule held ≡ true) where
   -- a bool that is held
-  small : (slot : ℕ) → slot < 9 → numberAt slot ≡ bool → getD held slot 0 ≤ 1
+  small : (slot : ℕ) → slot < slotCount → numberAt slot ≡ bool → getD held slot 0 ≤ 1
   unfolding inRange
-  small slot h is = within-most bool _ refl (rw is at (all-at 9 (λ k. within (numberAt k) (getD held k 0)) range slot h))
+  small slot h is = within-most bool _ refl (rw is at (all-at slotCount (λ k. within (numberAt k) (getD held k 0)) range slot h))
 
   pub conflict-test : (slot v : ℕ) → within (numberAt slot) v ≡ true → conflicts held slot v ≡ not (stackRule (set held slot v))
   unfolding conflicts stackRule numbers

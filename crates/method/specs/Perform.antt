@@ -8,11 +8,11 @@ use Rattle.octets.specs.Finding.{before}
 use Rattle.octets.specs.LittleEndian.{le}
 use Rattle.property.specs.Number.{numberAt, powerState, interfaceUp, stackUp, within}
 use Rattle.property.specs.declared.number.Number.{Number as Numeric}
-use Rattle.property.specs.declared.row.Command.{Command}
-use Rattle.property.specs.declared.row.Command.the-variants.{Get, Set, Insert, Remove}
+use Rattle.property.specs.declared.commands.Command.{Command}
+use Rattle.property.specs.declared.commands.Command.the-variants.{Get, Set, Insert, Remove}
 use Rattle.property.specs.declared.row.Kind.{Kind}
 use Rattle.property.specs.declared.row.Kind.the-variants.{ReadOnly, Power, Number, Name, Ports}
-use Rattle.device.specs.State.{heldFrom, octetsOf, isText, portsIn, holds, distinct}
+use Rattle.device.specs.State.{heldFrom, octetsOf, isText, portsIn, holds, distinct, maxName, maxPorts}
 use Rattle.device.specs.declared.state.Held.{Held}
 use Rattle.device.specs.declared.state.Link.{Link}
 use Rattle.device.specs.declared.view.Effect.the-variants.{None, Powered}
@@ -75,14 +75,14 @@ setPower l p = powerTo l (valueIn powerState p)
 unfoldable pub setName : Link → List ℕ → Performed
 setName l p =
     cond (eqb (suc (before 0 p)) (length p))
-    (cond (isText 16 (take (before 0 p) p)) (done (withName l (heldFrom (take (before 0 p) p)))) (refused l 3))
+    (cond (isText maxName (take (before 0 p) p)) (done (withName l (heldFrom (take (before 0 p) p)))) (refused l 3))
     (refused l 9)
 
 -- "SET: a repeated port 3, else more than eight 11"
 unfoldable pub setPorts : Link → List ℕ → Performed
 setPorts l p =
     cond (eqb (length p % 2) 0)
-    (cond (distinct (portsIn p)) (cond (ltb 8 (length (portsIn p))) (refused l 11) (done (withPorts l (heldFrom p)))) (refused l 3))
+    (cond (distinct (portsIn p)) (cond (ltb maxPorts (length (portsIn p))) (refused l 11) (done (withPorts l (heldFrom p)))) (refused l 3))
     (refused l 9)
 
 unfoldable pub setKind : Link → Kind → List ℕ → Performed
@@ -102,7 +102,7 @@ unfoldable pub insertPort : Link → List ℕ → Performed
 insertPort l p =
     cond (eqb (length p) 2)
     (cond (holds (le p) (portsHeld l)) (refused l 19)
-    (cond (ltb (length (portsHeld l)) 8) (done (withPorts l (heldFrom (octetsOf (l .ports) ++ p)))) (refused l 11)))
+    (cond (ltb (length (portsHeld l)) maxPorts) (done (withPorts l (heldFrom (octetsOf (l .ports) ++ p)))) (refused l 11)))
     (refused l 9)
 
 -- "removal closes the gap": all but the two octets at a place

@@ -12,7 +12,7 @@ ghost use mathlib.Core.Path.{_≡_};
 ghost use Prim.Native.Nat.{_+_, _≤_};
 ghost use lib.ListN.{length};
 ghost use Rattle.device.specs.Rules.{linkRule};
-ghost use Rattle.device.specs.State.{heldFrom};
+ghost use Rattle.device.specs.State.{heldFrom, maxHeld};
 ghost use Rattle.method.specs.Perform.{insertPort, without, removePort};
 
 pub fn insert(link: Link, payload: &[u8]) -> Performed
@@ -40,7 +40,7 @@ pub fn insert(link: Link, payload: &[u8]) -> Performed
 
 // All but the two octets at a place; what stood behind them moves up.
 fn close_gap(octets: &[u8], at: usize) -> Held
-    requires { ⌜ (at + 2 ≤ length (now octets)) × (length (now octets) ≤ 16) ⌝ }
+    requires { ⌜ (at + 2 ≤ length (now octets)) × (length (now octets) ≤ maxHeld) ⌝ }
     ensures { λ r. ⌜ r ≡ heldFrom (without at (now (octets .entry))) ⌝ }
 {
     Held::of(&octets[..at], &octets[at + 2..])

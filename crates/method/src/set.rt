@@ -21,6 +21,7 @@ use property::status;
 ghost use mathlib.Core.Bool.{true};
 ghost use mathlib.Core.Path.{_≡_};
 ghost use Prim.Native.Nat.{_<_, _≤_};
+ghost use Rattle.property.specs.Number.{slotCount};
 ghost use Rattle.property.specs.Rule.{rowRule};
 ghost use Rattle.device.specs.Rules.{linkRule};
 ghost use Rattle.method.specs.Perform.{valueIn, setNumber, setPower, setName, setPorts, setKind};
@@ -48,7 +49,7 @@ fn read_number(number: Number, payload: &[u8]) -> PayloadNumber
 
 // Any of the nine numbers. Stack and interface are the only two that hang together: the numbers as they would be are tested.
 fn set_number(link: Link, slot: usize, payload: &[u8]) -> Performed
-    requires { ⌜ (slot < 9) × (linkRule link ≡ true) ⌝ }
+    requires { ⌜ (slot < slotCount) × (linkRule link ≡ true) ⌝ }
     ensures { λ r. ⌜ r ≡ setNumber link slot (now (payload .entry)) ⌝ }
 {
     match read_number(number_at(slot), payload) {

@@ -5,3 +5,4 @@ pub mod Writing
 pub mod Finding
 pub mod Scanning
 pub mod Padding
+pub mod Body

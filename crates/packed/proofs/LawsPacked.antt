@@ -10,7 +10,7 @@ use lib.Dec.{eqb, ltb}
 use lib.ListN.{length, getD, take, drop, drop-of-length-le}
 use Rattle.octets.proofs.LawsLists.{drop-next}
 use Rattle.octets.proofs.LawsTests.{by-test}
-use Rattle.packed.specs.Packed.{packed, packedIn, joined, numberIn}
+use Rattle.packed.specs.Packed.{packed, packedIn, joined, numberIn, maxPacked}
 use Rattle.packed.specs.declared.Packed.{Packed}
 use Rattle.packed.specs.declared.Packed.the-variants.{Number, Unreadable}
 
@@ -39,7 +39,7 @@ pub packed-one : (n : ℕ) → n < 128 → packed n ≡ n ∷ []
 unfolding packed
 packed-one n h = packed-last 2 n h
 
-pub packed-next : (n : ℕ) → n ≤ 2097151 → 128 ≤ n → packed n ≡ (n % 128 + 128) ∷ packed (n / 128)
+pub packed-next : (n : ℕ) → n ≤ maxPacked → 128 ≤ n → packed n ≡ (n % 128 + 128) ∷ packed (n / 128)
 unfolding packed
 packed-next n most h = rw (packed-more 1 n h, packed-room 1 (n / 128) (omega arith))
 

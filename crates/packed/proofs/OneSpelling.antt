@@ -12,14 +12,14 @@ use lib.Seq.{take-append-seam, getD-drop}
 use Rattle.octets.specs.Octets.{Octets}
 use Rattle.octets.proofs.LawsLists.{octets-drop}
 use Rattle.octets.proofs.LawsTests.{by-test}
-use Rattle.packed.specs.Packed.{packed, packedIn, joined, numberIn, packedAt}
+use Rattle.packed.specs.Packed.{packed, packedIn, joined, numberIn, packedAt, maxPacked}
 use Rattle.packed.specs.declared.Packed.{Packed}
 use Rattle.packed.specs.declared.Packed.the-variants.{Number, Unreadable}
 use Rattle.packed.proofs.LawsPacked.{packed-last, packed-more, packed-room, number-none, number-take}
 
 -- what a reading of n up to `next` tells of the octets from `at` on
 pub record Spelled (xs : List ℕ) (at n next : ℕ) : Type 0 where
-  pub most : n ≤ 2097151
+  pub most : n ≤ maxPacked
   pub end : next ≡ at + length (packed n)
   pub inside : next ≤ length xs
   pub octets : take (length (packed n)) (drop at xs) ≡ packed n

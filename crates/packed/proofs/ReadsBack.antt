@@ -10,7 +10,7 @@ use lib.Dec.{eqb, ltb}
 use lib.ListN.{length}
 use lib.Seq.{drop-append-seam}
 use Rattle.octets.proofs.LawsTests.{by-test}
-use Rattle.packed.specs.Packed.{packed, packedIn, joined, numberIn, packedAt}
+use Rattle.packed.specs.Packed.{packed, packedIn, joined, numberIn, packedAt, maxPacked}
 use Rattle.packed.specs.declared.Packed.the-variants.{Number}
 use Rattle.packed.proofs.LawsPacked.{packed-last, packed-more}
 
@@ -36,7 +36,7 @@ back (suc k) at n after h =
     rw (packed-more k n high, le-ltb (n % 128 + 128) 128 (omega arith), back k (at + 1) (n / 128) after (omega arith), pos)
     (ap₂ Number (omega arith) (omega arith)))
 
-pub reads-back : (before after : List ℕ) (n : ℕ) → n ≤ 2097151
+pub reads-back : (before after : List ℕ) (n : ℕ) → n ≤ maxPacked
     → packedAt (before ++ (packed n ++ after)) (length before) ≡ Number n (length before + length (packed n))
 unfolding packedAt packed
 reads-back before after n most = rw drop-append-seam (back 2 (length before) n after (omega arith))

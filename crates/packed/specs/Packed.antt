@@ -13,6 +13,9 @@ packedIn zero n = n ∷ []
 packedIn (suc more) n = cond (ltb n 128) (n ∷ []) ((n % 128 + 128) ∷ packedIn more (n / 128))
 
 -- "1 to 3 octets, 0 to 2,097,151"
+abbrev pub maxPacked : ℕ
+maxPacked = 2097151
+
 unfoldable pub packed : ℕ → List ℕ
 packed n = packedIn 2 n
 

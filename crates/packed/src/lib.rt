@@ -5,12 +5,17 @@ ghost use mathlib.Core.Path.{_≡_};
 ghost use Prim.Native.Nat.{_+_, _≤_};
 ghost use lib.ListN.{length};
 ghost use Rattle.octets.specs.Writing.{Wrote};
-ghost use Rattle.packed.specs.Packed.{packed, packedAt};
+ghost use Rattle.packed.specs.Packed.{packed, packedAt, maxPacked};
 
 // What stands at a place: a number and the place after it, or no packed integer.
 pub enum Packed {
     Number(u32, usize),
     Unreadable,
+}
+
+impl Packed {
+    // The largest number that three octets hold.
+    pub const MAX: u32 = 2097151;
 }
 
 pub fn read_packed(octets: &[u8], at: usize) -> Packed
@@ -49,7 +54,7 @@ pub fn read_packed(octets: &[u8], at: usize) -> Packed
 
 // Writes a number of at most 2,097,151 in the fewest octets.
 pub fn write_packed(out: &mut [u8], at: usize, n: u32) -> usize
-    requires { ⌜ (n ≤ 2097151) × (at + length (packed n) ≤ length (now out)) ⌝ }
+    requires { ⌜ (n ≤ maxPacked) × (at + length (packed n) ≤ length (now out)) ⌝ }
     ensures { λ next. ⌜ Wrote (now (out .entry)) (now (out .exit)) at next (packed n) ⌝ }
 {
     let mut rest = n;

@@ -13,23 +13,24 @@ use lib.Seq.{drop-cons}
 use Rattle.octets.specs.Scanning.{allFrom, allBelow}
 use Rattle.octets.proofs.LawsScanning.{all-at}
 use Rattle.octets.proofs.LawsTests.{chosen, and-l, and-r}
+use Rattle.property.specs.Status.{maxStatus}
 use Rattle.property.specs.declared.row.Kind.{Kind}
 use Rattle.property.specs.declared.row.Kind.the-variants.{Power, Number}
 use Rattle.property.specs.declared.row.Row.{Row}
 use Rattle.property.specs.declared.row.Found.{Found}
 use Rattle.property.specs.declared.row.Found.the-variants.{At, Unknown}
 use Rattle.property.specs.declared.number.Number.{Number as Numeric}
-use Rattle.property.specs.Row.{rows, noRow, lookupIn, lookup}
-use Rattle.property.specs.Number.{numbers, numberAt, powerState, within}
+use Rattle.property.specs.Row.{rows, noRow, lookupIn, lookup, rowCount}
+use Rattle.property.specs.Number.{numbers, numberAt, powerState, within, slotCount}
 use Rattle.property.specs.Rule.{ofDevice, isShared, kindRule, rowRule, numberRule}
 
-pub rows-keep : (i : ℕ) → i < 20 → rowRule (getD rows i noRow) ≡ true
+pub rows-keep : (i : ℕ) → i < rowCount → rowRule (getD rows i noRow) ≡ true
 unfolding rows allBelow allFrom
-rows-keep i h = all-at 20 (λ j. rowRule (getD rows j noRow)) refl i h
+rows-keep i h = all-at rowCount (λ j. rowRule (getD rows j noRow)) refl i h
 
-pub numbers-keep : (slot : ℕ) → slot < 9 → numberRule (numberAt slot) ≡ true
+pub numbers-keep : (slot : ℕ) → slot < slotCount → numberRule (numberAt slot) ≡ true
 unfolding numbers within allBelow allFrom
-numbers-keep slot h = all-at 9 (λ k. numberRule (numberAt k)) refl slot h
+numbers-keep slot h = all-at slotCount (λ k. numberRule (numberAt k)) refl slot h
 
 pub power-keeps : numberRule powerState ≡ true
 unfolding within
@@ -90,15 +91,15 @@ kind-told r k e t = rw (← e) (and-r (ltb (r .id) 16384) _ (rest-told r t))
 pub power-id : (r : Row) → r .kind ≡ Power → rowRule r ≡ true → r .id ≡ 7
 power-id r e t = eqb-true (r .id) 7 (and-l (eqb (r .id) 7) _ (kind-told r Power e t))
 
-pub slot-below : (r : Row) (slot : ℕ) → r .kind ≡ Number slot → rowRule r ≡ true → slot < 9
-slot-below r slot e t = ltb-true slot 9 (and-l (ltb slot 9) _ (kind-told r (Number slot) e t))
+pub slot-below : (r : Row) (slot : ℕ) → r .kind ≡ Number slot → rowRule r ≡ true → slot < slotCount
+slot-below r slot e t = ltb-true slot slotCount (and-l (ltb slot slotCount) _ (kind-told r (Number slot) e t))
 
 pub width-most : (n : Numeric) → numberRule n ≡ true → n .width ≤ 4
 width-most n t = leb-true (n .width) 4 (and-l (leb (n .width) 4) _ (and-r (leb 1 (n .width)) _ t))
 
-pub outside-most : (n : Numeric) → numberRule n ≡ true → leb (n .outside) 127 ≡ true
+pub outside-most : (n : Numeric) → numberRule n ≡ true → leb (n .outside) maxStatus ≡ true
 outside-most n t =
-    and-l (leb (n .outside) 127) _ (and-r (eqb (suc (n .top)) (256 ^ n .width)) _ (and-r (leb (n .width) 4) _ (and-r (leb 1 (n .width)) _ t)))
+    and-l (leb (n .outside) maxStatus) _ (and-r (eqb (suc (n .top)) (256 ^ n .width)) _ (and-r (leb (n .width) 4) _ (and-r (leb 1 (n .width)) _ t)))
 
 -- ---- looking from the i-th row on
 
@@ -107,14 +108,14 @@ here : (rs : List Row) (i id : ℕ) → i < length rs
 unfolding lookupIn
 here rs i id h = rw (add-one, drop-cons rs i noRow h)
 
-pub hit : (i id : ℕ) → i < 20 → getD rows i noRow .id ≡ id → lookupIn (drop i rows) id ≡ At (getD rows i noRow)
+pub hit : (i id : ℕ) → i < rowCount → getD rows i noRow .id ≡ id → lookupIn (drop i rows) id ≡ At (getD rows i noRow)
 unfolding rows
 hit i id h e = here rows i id h ∙ rw (eq-eqb _ _ e)
 
-pub miss : (i id : ℕ) → i < 20 → (getD rows i noRow .id ≡ id → ⊥) → lookupIn (drop i rows) id ≡ lookupIn (drop (i + 1) rows) id
+pub miss : (i id : ℕ) → i < rowCount → (getD rows i noRow .id ≡ id → ⊥) → lookupIn (drop i rows) id ≡ lookupIn (drop (i + 1) rows) id
 unfolding rows
 miss i id h e = here rows i id h ∙ rw (ne-eqb _ _ e)
 
-pub past : (i id : ℕ) → i ≡ 20 → lookupIn (drop i rows) id ≡ Unknown
+pub past : (i id : ℕ) → i ≡ rowCount → lookupIn (drop i rows) id ≡ Unknown
 unfolding rows lookupIn
 past i id e = rw e

@@ -1,3 +1,5 @@
+pub mod Commands
+pub mod Status
 pub mod Row
 pub mod Number
 pub mod Rule

@@ -14,6 +14,10 @@ bool = record { width = 1; low = 0; high = 1; top = 255; outside = 9; default = 
 abbrev pub number : ℕ → ℕ → ℕ → ℕ → Number
 number width low high default = record { width = width; low = low; high = high; top = 256 ^ width - 1; outside = 3; default = default }
 
+-- how many of the table's values a link holds as plain numbers, each in a slot
+abbrev pub slotCount : ℕ
+slotCount = 9
+
 -- by slot
 unfoldable pub numbers : List Number
 numbers =

@@ -3,8 +3,8 @@ use Prim.Native.Nat.{ℕ}
 use mathlib.Core.Bool.{Bool, true, false, cond}
 use mathlib.Core.List.{List, [], _∷_}
 use lib.Dec.{eqb}
-use Rattle.property.specs.declared.row.Command.{Command}
-use Rattle.property.specs.declared.row.Command.the-variants.{Get, Set, Insert, Remove}
+use Rattle.property.specs.declared.commands.Command.{Command}
+use Rattle.property.specs.declared.commands.Command.the-variants.{Get, Set, Insert, Remove}
 use Rattle.property.specs.declared.row.ReadOnly.the-variants.{LastStatus, ProtocolVersion, VersionText, InterfaceType, Vendor, Capabilities, InterfaceCount, HardwareAddress}
 use Rattle.property.specs.declared.row.Kind.{Kind}
 use Rattle.property.specs.declared.row.Kind.the-variants.{ReadOnly, Power, Number, Name, Ports}
@@ -23,6 +23,10 @@ settable id scope kind = record { id = id; kind = kind; get = true; set = true; 
 
 abbrev pub with-items : ℕ → Scope → Kind → Row
 with-items id scope kind = record { id = id; kind = kind; get = true; set = true; items = true; scope = scope }
+
+-- 01's table has twenty rows
+abbrev pub rowCount : ℕ
+rowCount = 20
 
 unfoldable pub rows : List Row
 rows =

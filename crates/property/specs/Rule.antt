@@ -3,6 +3,7 @@ use Prim.Native.Nat.{suc, _^_}
 use mathlib.Core.Bool.{Bool, true, false, cond, not, _&&_}
 use mathlib.Core.Path.{_≡_}
 use lib.Dec.{eqb, ltb, leb}
+use Rattle.property.specs.Status.{maxStatus}
 use Rattle.property.specs.declared.row.ReadOnly.{ReadOnly as Fixed}
 use Rattle.property.specs.declared.row.ReadOnly.the-variants.{LastStatus, ProtocolVersion, VersionText, InterfaceType, Vendor, Capabilities, InterfaceCount, HardwareAddress}
 use Rattle.property.specs.declared.row.Kind.{Kind}
@@ -13,7 +14,7 @@ use Rattle.property.specs.declared.row.Row.{Row}
 use Rattle.property.specs.declared.row.Found.{Found}
 use Rattle.property.specs.declared.row.Found.the-variants.{At, Unknown}
 use Rattle.property.specs.declared.number.Number.{Number as Numeric}
-use Rattle.property.specs.Number.{within}
+use Rattle.property.specs.Number.{within, slotCount}
 
 abbrev pub ofDevice : Scope → Bool
 ofDevice scope.Device = true
@@ -42,7 +43,7 @@ isShared Ports = false
 abbrev pub kindRule : Kind → Row → Bool
 kindRule (ReadOnly f) r = not (r .set) && not (r .items)
 kindRule Power r = eqb (r .id) 7 && not (r .items)
-kindRule (Number slot) r = ltb slot 9 && not (r .items)
+kindRule (Number slot) r = ltb slot slotCount && not (r .items)
 kindRule Name r = not (r .items)
 kindRule Ports r = true
 
@@ -57,4 +58,4 @@ KeepsRule (At r) = rowRule r ≡ true
 -- 1 to 4 octets, the top of that width, a status that a link can hold, and a default that is one of the values
 abbrev pub numberRule : Numeric → Bool
 numberRule n =
-    leb 1 (n .width) && (leb (n .width) 4 && (eqb (suc (n .top)) (256 ^ n .width) && (leb (n .outside) 127 && within n (n .default))))
+    leb 1 (n .width) && (leb (n .width) 4 && (eqb (suc (n .top)) (256 ^ n .width) && (leb (n .outside) maxStatus && within n (n .default))))

@@ -3,7 +3,7 @@ use crate::slot;
 use crate::status;
 ghost use mathlib.Core.Path.{_≡_};
 ghost use Prim.Native.Nat.{_<_};
-ghost use Rattle.property.specs.Number.{numberAt, powerState, within};
+ghost use Rattle.property.specs.Number.{numberAt, powerState, within, slotCount};
 ghost use mathlib.Core.Bool.{true};
 ghost use Rattle.property.specs.Rule.{numberRule};
 
@@ -104,7 +104,7 @@ const NUMBERS: [Number; slot::COUNT] = [
 
 // The number in a slot of a link.
 pub fn number_at(slot: usize) -> Number
-    requires { ⌜ slot < 9 ⌝ }
+    requires { ⌜ slot < slotCount ⌝ }
     ensures is { λ r. ⌜ r ≡ numberAt slot ⌝ }
     ensures rule { λ r. ⌜ numberRule r ≡ true ⌝ }
 {

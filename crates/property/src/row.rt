@@ -1,18 +1,11 @@
 // The twenty rows (01, The property table).
+use crate::commands::Command;
 use crate::slot;
 ghost use mathlib.Core.Path.{_≡_};
 ghost use Prim.Native.Nat.{_<_};
 ghost use lib.ListN.{getD};
-ghost use Rattle.property.specs.Row.{rows, noRow, lookup, allows};
+ghost use Rattle.property.specs.Row.{rows, noRow, lookup, allows, rowCount};
 ghost use Rattle.property.specs.Rule.{KeepsRule};
-
-// The commands that name a property.
-pub enum Command {
-    Get,
-    Set,
-    Insert,
-    Remove,
-}
 
 // A property that no command changes.
 pub enum ReadOnly {
@@ -51,12 +44,16 @@ pub struct Row {
     pub scope: Scope,
 }
 
+impl Row {
+    pub const COUNT: usize = 20;
+}
+
 pub enum Found {
     At(Row),
     Unknown,
 }
 
-const ROWS: [Row; 20] = [
+const ROWS: [Row; Row::COUNT] = [
     Row {
         id: 0,
         kind: Kind::ReadOnly(ReadOnly::LastStatus),
@@ -220,7 +217,7 @@ const ROWS: [Row; 20] = [
 ];
 
 fn row_at(i: usize) -> Row
-    requires { ⌜ i < 20 ⌝ }
+    requires { ⌜ i < rowCount ⌝ }
     ensures { λ r. ⌜ r ≡ getD rows i noRow ⌝ }
 {
     ROWS[i]
@@ -232,7 +229,7 @@ pub fn find(id: u32) -> Found
     ensures rule { λ r. ⌜ KeepsRule r ⌝ }
 {
     let mut i: usize = 0;
-    while i < 20 {
+    while i < Row::COUNT {
         let row = row_at(i);
         if row.id == id {
             return Found::At(row);

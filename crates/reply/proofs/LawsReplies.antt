@@ -8,23 +8,23 @@ use lib.ListN.{length, getD, length-append}
 use Rattle.octets.proofs.LawsLittleEndian.{length-le}
 use Rattle.packed.specs.Packed.{packed}
 use Rattle.packed.proofs.ReadsBack.{packed-size}
-use Rattle.property.specs.Number.{numberAt}
-use Rattle.property.specs.declared.row.Command.{Command}
+use Rattle.property.specs.Number.{numberAt, slotCount}
+use Rattle.property.specs.declared.commands.Command.{Command}
 use Rattle.property.specs.declared.row.Kind.{Kind}
 use Rattle.property.specs.declared.row.Kind.the-variants.{ReadOnly, Power, Number, Name, Ports}
 use Rattle.property.specs.declared.row.ReadOnly.{ReadOnly as Fixed}
 use Rattle.property.specs.declared.row.ReadOnly.the-variants.{LastStatus, ProtocolVersion, VersionText, InterfaceType, Vendor, Capabilities, InterfaceCount, HardwareAddress}
 use Rattle.property.specs.declared.row.Row.{Row}
 use Rattle.property.proofs.TableRule.{numbers-keep, width-most}
-use Rattle.device.specs.State.{textOf, octetsOf}
+use Rattle.device.specs.State.{textOf, octetsOf, maxReply}
 use Rattle.device.specs.Rules.{settingsRule, linkRule}
 use Rattle.device.proofs.StateRules.{settings-told, name-room, ports-room}
 use Rattle.device.specs.declared.view.View.{View}
 use Rattle.reply.specs.Value.{fixedValue, numberValue, valueOf}
-use Rattle.reply.specs.Reply.{content, successReply}
+use Rattle.reply.specs.Reply.{content, successReply, maxContent}
 
 module _ (v : View) (s : settingsRule (v .settings) ≡ true) where
-  fixed-size : (x : Fixed) → length (fixedValue v x) ≤ 33
+  fixed-size : (x : Fixed) → length (fixedValue v x) ≤ maxContent
   unfolding fixedValue
   fixed-size LastStatus = omega (arith, packed-size (v .link .status))
   fixed-size ProtocolVersion = omega arith
@@ -37,7 +37,7 @@ module _ (v : View) (s : settingsRule (v .settings) ≡ true) where
   fixed-size InterfaceCount = omega arith
   fixed-size HardwareAddress = omega (arith, settings-told (v .settings) s .address)
 
-  pub value-size : linkRule (v .link) ≡ true → (k : Kind) → ((slot : ℕ) → k ≡ Number slot → slot < 9) → length (valueOf v k) ≤ 33
+  pub value-size : linkRule (v .link) ≡ true → (k : Kind) → ((slot : ℕ) → k ≡ Number slot → slot < slotCount) → length (valueOf v k) ≤ maxContent
   unfolding valueOf numberValue
   value-size l (ReadOnly x) h = fixed-size x
   value-size l Power h = omega arith
@@ -46,8 +46,8 @@ module _ (v : View) (s : settingsRule (v .settings) ≡ true) where
   value-size l Name h = let t = name-room (v .link) l in omega (arith, length-append (octetsOf (v .link .name)) (0 ∷ []), t .most, t .counted)
   value-size l Ports h = let t = ports-room (v .link) l in omega (arith, t .most, t .counted)
 
-pub replied-size : (v : View) (h : ℕ) (c : Command) (r : Row) (p : List ℕ) → length (content v c (r .kind) p) ≤ 33
-    → (3 ≤ length (successReply v h c r p)) × (length (successReply v h c r p) ≤ 61)
+pub replied-size : (v : View) (h : ℕ) (c : Command) (r : Row) (p : List ℕ) → length (content v c (r .kind) p) ≤ maxContent
+    → (3 ≤ length (successReply v h c r p)) × (length (successReply v h c r p) ≤ maxReply)
 unfolding successReply
 replied-size v h c r p few =
     let id = packed-size (r .id) in

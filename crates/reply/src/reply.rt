@@ -6,21 +6,23 @@ use octets::write_octets;
 use packed::write_packed;
 use property::Command;
 use property::Row;
+use property::commands;
 ghost use mathlib.Core.Bool.{true};
 ghost use mathlib.Core.Path.{_≡_};
 ghost use Prim.Native.Nat.{_+_, _≤_};
 ghost use lib.ListN.{length};
 ghost use Rattle.octets.specs.Writing.{Wrote};
 ghost use Rattle.property.specs.Rule.{rowRule};
+ghost use Rattle.device.specs.State.{maxReply};
 ghost use Rattle.device.specs.Rules.{settingsRule, linkRule};
-ghost use Rattle.reply.specs.Reply.{statusReply, replyCommand, content, successReply};
+ghost use Rattle.reply.specs.Reply.{statusReply, replyCommand, content, successReply, maxContent};
 
-// Command 6, property 0, a status below 128.
+// Property 0 and a status below 128, both one octet packed.
 pub fn write_status(out: &mut [u8], header: u8, status: u8) -> usize
     requires { ⌜ 4 ≤ length (now out) ⌝ }
     ensures { λ next. ⌜ Wrote (now (out .entry)) (now (out .exit)) 0 next (statusReply header status) ⌝ }
 {
-    let reply = [header, 6, 0, status];
+    let reply = [header, commands::VALUE_IS, 0, status];
     write_octets(out, 0, &reply)
 }
 
@@ -28,10 +30,10 @@ fn reply_command(command: Command) -> u8
     ensures { λ r. ⌜ r ≡ replyCommand command ⌝ }
 {
     match command {
-        Command::Get => 6,
-        Command::Set => 6,
-        Command::Insert => 7,
-        Command::Remove => 8,
+        Command::Get => commands::VALUE_IS,
+        Command::Set => commands::VALUE_IS,
+        Command::Insert => commands::VALUE_INSERTED,
+        Command::Remove => commands::VALUE_REMOVED,
     }
 }
 
@@ -45,7 +47,7 @@ fn write_content(
     payload: &[u8],
 ) -> usize
     requires { ⌜ (settingsRule (view .settings) ≡ true) × (linkRule (view .link) ≡ true) × (rowRule row ≡ true) ⌝ }
-    requires { ⌜ (at + 33 ≤ length (now out)) × (at + length (content view command (row .kind) (now payload)) ≤ length (now out)) ⌝ }
+    requires { ⌜ (at + maxContent ≤ length (now out)) × (at + length (content view command (row .kind) (now payload)) ≤ length (now out)) ⌝ }
     ensures { λ next. ⌜ Wrote (now (out .entry)) (now (out .exit)) at next (content view command (row .kind) (now (payload .entry))) ⌝ }
 {
     match command {
@@ -65,7 +67,7 @@ pub fn write_reply(
     payload: &[u8],
 ) -> usize
     requires { ⌜ (settingsRule (view .settings) ≡ true) × (linkRule (view .link) ≡ true) × (rowRule row ≡ true) ⌝ }
-    requires { ⌜ (61 ≤ length (now out)) × (length (content view command (row .kind) (now payload)) ≤ 33) ⌝ }
+    requires { ⌜ (maxReply ≤ length (now out)) × (length (content view command (row .kind) (now payload)) ≤ maxContent) ⌝ }
     ensures { λ next. ⌜ Wrote (now (out .entry)) (now (out .exit)) 0 next (successReply view header command row (now (payload .entry))) ⌝ }
 {
     let header_end = write_octet(out, 0, header);

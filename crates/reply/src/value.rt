@@ -14,8 +14,10 @@ ghost use mathlib.Core.Path.{_≡_};
 ghost use Prim.Native.Nat.{_+_, _≤_, _<_};
 ghost use lib.ListN.{length};
 ghost use Rattle.octets.specs.Writing.{Wrote};
+ghost use Rattle.property.specs.Number.{slotCount};
 ghost use Rattle.property.specs.Rule.{rowRule};
 ghost use Rattle.device.specs.Rules.{settingsRule, linkRule};
+ghost use Rattle.reply.specs.Reply.{maxContent};
 ghost use Rattle.reply.specs.Value.{fixedValue, numberValue, valueOf};
 
 // A text and the zero that ends it.
@@ -28,7 +30,7 @@ fn write_text(out: &mut [u8], at: usize, text: &[u8]) -> usize
 }
 
 fn write_fixed(out: &mut [u8], at: usize, view: View, fixed: ReadOnly) -> usize
-    requires { ⌜ (settingsRule (view .settings) ≡ true) × (at + 33 ≤ length (now out)) ⌝ }
+    requires { ⌜ (settingsRule (view .settings) ≡ true) × (at + maxContent ≤ length (now out)) ⌝ }
     ensures { λ next. ⌜ Wrote (now (out .entry)) (now (out .exit)) at next (fixedValue view fixed) ⌝ }
 {
     let settings = view.settings;
@@ -54,7 +56,7 @@ fn write_fixed(out: &mut [u8], at: usize, view: View, fixed: ReadOnly) -> usize
 }
 
 fn write_number(out: &mut [u8], at: usize, view: View, slot: usize) -> usize
-    requires { ⌜ (slot < 9) × (at + 4 ≤ length (now out)) ⌝ }
+    requires { ⌜ (slot < slotCount) × (at + 4 ≤ length (now out)) ⌝ }
     ensures { λ next. ⌜ Wrote (now (out .entry)) (now (out .exit)) at next (numberValue view slot) ⌝ }
 {
     let number = number_at(slot);
@@ -64,7 +66,7 @@ fn write_number(out: &mut [u8], at: usize, view: View, slot: usize) -> usize
 }
 
 pub fn write_value(out: &mut [u8], at: usize, view: View, row: Row) -> usize
-    requires { ⌜ (settingsRule (view .settings) ≡ true) × (linkRule (view .link) ≡ true) × (rowRule row ≡ true) × (at + 33 ≤ length (now out)) ⌝ }
+    requires { ⌜ (settingsRule (view .settings) ≡ true) × (linkRule (view .link) ≡ true) × (rowRule row ≡ true) × (at + maxContent ≤ length (now out)) ⌝ }
     ensures { λ next. ⌜ Wrote (now (out .entry)) (now (out .exit)) at next (valueOf view (row .kind)) ⌝ }
 {
     let kind = row.kind;

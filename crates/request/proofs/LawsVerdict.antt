@@ -12,9 +12,10 @@ use Rattle.packed.specs.Packed.{packedAt}
 use Rattle.packed.specs.declared.Packed.{Packed}
 use Rattle.packed.specs.declared.Packed.the-variants.{Number, Unreadable}
 use Rattle.packed.proofs.OneSpelling.{place-after, one-octet}
+use Rattle.property.specs.Status.{maxStatus}
 use Rattle.property.specs.Row.{lookup, allows}
 use Rattle.property.specs.Rule.{rowRule}
-use Rattle.property.specs.declared.row.Command.{Command}
+use Rattle.property.specs.declared.commands.Command.{Command}
 use Rattle.property.specs.declared.row.Found.{Found}
 use Rattle.property.specs.declared.row.Found.the-variants.{At, Unknown}
 use Rattle.property.specs.declared.row.Row.{Row}
@@ -111,7 +112,7 @@ verdict-reset b e = command-reset b (packedAt b 1) refl e
 -- ---- the statuses of steps 2 to 5
 
 abbrev pub Small : Verdict → Type 0
-Small (Refuse step s) = leb s 127 ≡ true
+Small (Refuse step s) = leb s maxStatus ≡ true
 Small Noop = Unit {0}
 Small Reset = Unit {0}
 Small (Reach c r start) = Unit {0}

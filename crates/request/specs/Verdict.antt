@@ -7,9 +7,10 @@ use lib.ListN.{getD}
 use Rattle.packed.specs.Packed.{packedAt}
 use Rattle.packed.specs.declared.Packed.{Packed}
 use Rattle.packed.specs.declared.Packed.the-variants.{Number, Unreadable}
+use Rattle.property.specs.Commands.{noop, reset, valueGet, valueSet, valueInsert, valueRemove}
 use Rattle.property.specs.Row.{lookup, allows}
-use Rattle.property.specs.declared.row.Command.{Command}
-use Rattle.property.specs.declared.row.Command.the-variants.{Get, Set, Insert, Remove}
+use Rattle.property.specs.declared.commands.Command.{Command}
+use Rattle.property.specs.declared.commands.Command.the-variants.{Get, Set, Insert, Remove}
 use Rattle.property.specs.declared.row.Found.{Found}
 use Rattle.property.specs.declared.row.Found.the-variants.{At, Unknown}
 use Rattle.request.specs.declared.verdict.Verdict.{Verdict}
@@ -21,7 +22,7 @@ headerOf b = getD b 0 0
 
 -- "GET (2) and SET (3) ..; INSERT (4) .. and REMOVE (5)"
 unfoldable pub commandOf : ℕ → Command
-commandOf n = cond (eqb n 2) Get (cond (eqb n 3) Set (cond (eqb n 4) Insert Remove))
+commandOf n = cond (eqb n valueGet) Get (cond (eqb n valueSet) Set (cond (eqb n valueInsert) Insert Remove))
 
 -- step 4, "unknown: 13", and step 5, "command not allowed for it: 21"
 unfoldable pub byRow : Command → ℕ → Found → Verdict
@@ -37,7 +38,7 @@ byProperty c (Number id start) = byRow c start (lookup id)
 unfoldable pub byCommand : List ℕ → Packed → Verdict
 byCommand b Unreadable = Refuse 2 9
 byCommand b (Number n next) =
-    cond (eqb n 0) Noop (cond (eqb n 1) Reset (cond (ltb 5 n) (Refuse 2 5) (byProperty (commandOf n) (packedAt b next))))
+    cond (eqb n noop) Noop (cond (eqb n reset) Reset (cond (ltb valueRemove n) (Refuse 2 5) (byProperty (commandOf n) (packedAt b next))))
 
 unfoldable pub verdict : List ℕ → Verdict
 verdict b = byCommand b (packedAt b 1)

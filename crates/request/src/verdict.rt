@@ -5,6 +5,7 @@ use property::Command;
 use property::Found;
 use property::Row;
 use property::allows;
+use property::commands;
 use property::find;
 use property::status;
 ghost use mathlib.Core.Path.{_≡_};
@@ -23,13 +24,13 @@ pub enum Verdict {
 fn command_of(number: u32) -> Command
     ensures { λ r. ⌜ r ≡ commandOf number ⌝ }
 {
-    if number == 2 {
+    if number == commands::VALUE_GET {
         return Command::Get;
     }
-    if number == 3 {
+    if number == commands::VALUE_SET {
         return Command::Set;
     }
-    if number == 4 {
+    if number == commands::VALUE_INSERT {
         return Command::Insert;
     }
     Command::Remove
@@ -59,13 +60,13 @@ pub fn verdict_of(body: &[u8]) -> Verdict
     let Packed::Number(command, next) = number else {
         return Verdict::Refuse(2, status::PARSE_ERROR);
     };
-    if command == 0 {
+    if command == commands::NOOP {
         return Verdict::Noop;
     }
-    if command == 1 {
+    if command == commands::RESET {
         return Verdict::Reset;
     }
-    if 5 < command {
+    if commands::VALUE_REMOVE < command {
         return Verdict::Refuse(2, status::INVALID_COMMAND);
     }
     by_property(command_of(command), read_packed(body, next))

@@ -6,9 +6,10 @@ use mathlib.Core.Path.{_≡_, refl, sym, ap, subst, _∙_}
 use mathlib.Core.List.{List, [], _∷_, _++_, append-assoc, append-nil, map}
 use Prim.Native.Nat.{ℕ, _/_}
 use lib.Seq.{take-length}
+use Rattle.octets.specs.Body.{Body}
 use Rattle.octets.specs.Octets.{Octets}
 use Rattle.frame.specs.Kind.{isFlag}
-use Rattle.frame.specs.Frame.{Body, stuffed, checked, frame}
+use Rattle.frame.specs.Frame.{stuffed, checked, frame}
 use Rattle.hdlc.specs.Wire.{kept, gathered, cutEscape, pieceFate, ended, grown, finished, unfinished, fated, fatesOf}
 use Rattle.hdlc.proofs.LawsFates.{headed-checked}
 use Rattle.hdlc.proofs.LawsPieces.{unfinished-append}

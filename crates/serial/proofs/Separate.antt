@@ -8,6 +8,7 @@ use Prim.Native.Nat.{ℕ, _<_}
 use lib.Dec.{ltb}
 use Rattle.frame.specs.Frame.{frame}
 use Rattle.property.specs.Row.{rows}
+use Rattle.device.specs.State.{maxLinks}
 use Rattle.device.proofs.SetupKeepsRules.{setup-keeps}
 use Rattle.device.specs.View.{viewOf}
 use Rattle.reply.specs.Value.{valueOf}
@@ -29,7 +30,7 @@ pub octets-framed : (s : Setup) (k : ℕ) (h : History) → octetsTo s k h ≡ m
 unfolding octetsTo bodiesTo
 octets-framed s k h = ap (picked (settingsIn s) k (bodies h)) (faithful s h .replies) ∙ picked-replies frame k (deviceFrom s) (bodies h)
 
-pub separate : (s : Setup) (k : ℕ) → k < 4 → (g h : History) → mergedIn s k g ≡ mergedIn s k h → Alike s k g h
+pub separate : (s : Setup) (k : ℕ) → k < maxLinks → (g h : History) → mergedIn s k g ≡ mergedIn s k h → Alike s k g h
 unfolding mergedIn bodiesTo valuesOn statusOn deviceIn
 separate s k few g h m =
     let d = deviceFrom s in

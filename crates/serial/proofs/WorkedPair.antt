@@ -11,36 +11,37 @@ use Rattle.octets.specs.LittleEndian.{le, leAt}
 use Rattle.octets.specs.Padding.{pad}
 use Rattle.frame.specs.Kind.{isFlag, isEscape, isSkipped}
 use Rattle.frame.specs.Fcs.{fcsBit, fcsBits, fcsOctet, fcsFrom, fcs}
-use Rattle.hdlc.specs.Reader.{bodyOf, checkOf, headed, frameFate}
+use Rattle.hdlc.specs.Reader.{bodyOf, checkOf, headed, frameFate, maxGathered}
 use Rattle.hdlc.specs.Wire.{kept, meant, pends, gathered, cutEscape, pieceFate, ended, grown, finished, unfinished, fated, fatesOf, pieceFateAt, call, callReads}
-use Rattle.device.specs.State.{goodText, isText, fresh}
+use Rattle.device.specs.State.{goodText, isText, fresh, addressSize}
 use Rattle.device.specs.Setup.{isSetup, setupFor}
 use Rattle.device.specs.declared.view.Effect.the-variants.{Reset, Powered}
 use Rattle.command.specs.Effects.{isReset, isPower, effectOf}
 use Rattle.engine.specs.Engine.{linkOf, isSetUp}
 use Rattle.engine.specs.Merged.{Item, whole, only, effectItem, itemOf, merged}
+use Rattle.serial.specs.Receiving.{minOutput}
 use Rattle.serial.specs.Histories.{Setup, own, short, ReceivingCall, History, isRefused, readBy, laidFrom, laid, checkedOf, checkedIn, bodies}
 use Rattle.serial.specs.Links.{mergedIn}
 use Rattle.serial.proofs.Separate.{Alike, separate}
 
 -- a box of two links
 abbrev pub two-links : Setup
-two-links = record { links = 2; vendor = 0; text = []; address = replicate 8 0 }
+two-links = record { links = 2; vendor = 0; text = []; address = replicate addressSize 0 }
 
 -- a call with the own buffer and room for a reply
 abbrev reads : List ℕ → ReceivingCall
-reads xs = record { lent = own; input = xs; output = replicate 128 0 }
+reads xs = record { lent = own; input = xs; output = replicate minOutput 0 }
 
 abbrev pub noisy : History
 noisy =
     record {
-      assembly = replicate 1302 7;
+      assembly = replicate maxGathered 7;
       calls =
           reads (0x01 ∷ 0x02 ∷ 0x03 ∷ 0x7e ∷ []) ∷  -- noise
           reads (0x7d ∷ 0x7e ∷ []) ∷  -- a cut escape
           reads (0x7e ∷ 0x83 ∷ 0x03 ∷ 0x21 ∷ []) ∷  -- the channel of link 0, cut
           record { lent = own; input = 0x1a ∷ 0x29 ∷ 0x9e ∷ 0x7e ∷ []; output = [] } ∷  -- refused with 13
-          record { lent = short (replicate 7 0) (omega arith); input = 0x1a ∷ 0x29 ∷ []; output = replicate 128 0 } ∷  -- refused with 12
+          record { lent = short (replicate 7 0) (omega arith); input = 0x1a ∷ 0x29 ∷ []; output = replicate minOutput 0 } ∷  -- refused with 12
           reads (0x1a ∷ 0x29 ∷ 0x9e ∷ 0x7e ∷ []) ∷
           reads (0x81 ∷ 0x01 ∷ 0xda ∷ 0x8b ∷ 0x7e ∷ []) ∷  -- a reset by link 0
           reads (0x93 ∷ 0x03 ∷ 0x21 ∷ 0x0c ∷ 0x3f ∷ 0x28 ∷ []) ∷  -- the channel of link 1, its flag in the next call

@@ -9,6 +9,7 @@ ghost use mathlib.Core.Bool.{true};
 ghost use mathlib.Core.Path.{_≡_};
 ghost use Prim.Native.Nat.{_≤_, _/_};
 ghost use lib.ListN.{length};
+ghost use Rattle.octets.specs.Body.{maxBody, minBody};
 ghost use Rattle.frame.specs.Frame.{written, writing};
 ghost use Rattle.hdlc.specs.Reader.{maxGathered, assembling, run};
 ghost use Rattle.hdlc.specs.Rules.{rules as readerRules};
@@ -70,7 +71,7 @@ fn without_reply(answer: Answer, read: usize, device: Device, reader: Reader) ->
 // The engine's answer to a checked body. The reply's frame goes to the front of the output.
 fn reply(device: Device, body: &[u8], output: &mut [u8]) -> Replied
     requires rules { ⌜ rules device ≡ true ⌝ }
-    requires body { ⌜ (2 ≤ length (now body)) × (length (now body) ≤ 1300) × (headerOf (now body) / 64 ≡ 2) ⌝ }
+    requires body { ⌜ (minBody ≤ length (now body)) × (length (now body) ≤ maxBody) × (headerOf (now body) / 64 ≡ 2) ⌝ }
     requires room { ⌜ minOutput ≤ length (now output) ⌝ }
     ensures device { λ r. ⌜ r .device ≡ engine device (now (body .entry)) .device ⌝ }
     ensures output { λ r. ⌜ written (r .written) (now (output .exit)) ≡ writing (engine device (now (body .entry)) .reply) (now (output .entry)) ⌝ }

@@ -9,9 +9,13 @@ ghost use lib.ListN.{length, drop};
 ghost use Rattle.typestring.specs.Parse as parse;
 ghost use Rattle.typestring.specs.Calls.{Scanned, Stepped};
 
-const MAX_OCTETS: usize = 64;
+pub struct TypeString {}
 
-pub const MAX_OPEN: usize = 4;
+impl TypeString {
+    pub const MAX_OCTETS: usize = 64;
+    // How many brackets may be open at once.
+    pub const MAX_OPEN: usize = 4;
+}
 
 // Where a part ends.
 pub enum Scan {
@@ -29,10 +33,10 @@ pub enum Step {
 pub fn is_type(types: &[u8]) -> bool
     ensures { λ r. ⌜ r ≡ parse.isType (parse.typeOf (now (types .entry))) ⌝ }
 {
-    if MAX_OCTETS < types.len() {
+    if TypeString::MAX_OCTETS < types.len() {
         return false;
     }
-    match check_sequence(types, 0, MAX_OPEN, false) {
+    match check_sequence(types, 0, TypeString::MAX_OPEN, false) {
         Scan::Bad => false,
         Scan::Upto(end) => end == types.len(),
     }

@@ -4,7 +4,7 @@ mod check;
 mod kind;
 
 pub use brackets::item_end;
-pub use check::MAX_OPEN;
+pub use check::TypeString;
 pub use check::ends_part;
 pub use check::is_type;
 pub use kind::ItemKind;

@@ -6,14 +6,14 @@ use lib.ListN.{length}
 use lib.Seq.{sets}
 use Rattle.octets.specs.Writing.{Wrote}
 use Rattle.octets.proofs.LawsWriting.{wrote-then}
-use Rattle.packed.specs.Packed.{packed}
+use Rattle.packed.specs.Packed.{packed, maxPacked}
 use Rattle.packed.proofs.LawsPacked.{packed-one, packed-next}
 use Rattle.packed.proofs.write_packed.Statement.{statement}
 use Rattle.packed.proofs.write_packed.Tie as tie
 
 abbrev Inv-loop : tie.InvT-loop
 Inv-loop out₀ at n rest₀ to₀ out rest to =
-    (rest ≤ 2097151) × (length out ≡ length out₀) × Wrote out₀ (sets out to (packed rest)) at (to + length (packed rest)) (packed n)
+    (rest ≤ maxPacked) × (length out ≡ length out₀) × Wrote out₀ (sets out to (packed rest)) at (to + length (packed rest)) (packed n)
 
 abbrev μ-loop : tie.MeasureT-loop
 μ-loop out₀ at n rest₀ to₀ out rest to = rest

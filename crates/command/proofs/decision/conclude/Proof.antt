@@ -3,6 +3,7 @@ use mathlib.Core.Path.{refl}
 use native.Mathlib.Omega.{arith}
 use borrow.Author.Needs.{needs}
 use borrow.Author.Tests.{le-ltb}
+use Rattle.device.specs.State.{maxReply}
 use Rattle.reply.proofs.LawsReplies.{replied-size}
 use Rattle.command.specs.Decision.{replying, decisionOf}
 use Rattle.command.proofs.decision.conclude.Statement.{statement}
@@ -22,5 +23,5 @@ conclude-spec =
     absurd (omega (arith, replied-size _ (s .args .header) (s .args .command) (s .args .row) (s .args .payload .now) (s .pre .1 .1) .1)))
     (λ c. search needs)
     (λ c. let w = c .before .before .before in let s = w .before .before .before .before .before in
-    rw (le-ltb 61 _ (replied-size _ (s .args .header) (s .args .command) (s .args .row) (s .args .payload .now) (s .pre .1 .1) .1))
+    rw (le-ltb maxReply _ (replied-size _ (s .args .header) (s .args .command) (s .args .row) (s .args .payload .now) (s .pre .1 .1) .1))
     (record { effect = refl; link = refl; reply = rw (w .before .after .ensures) at (w .write-reply .ensures) })))

@@ -4,6 +4,7 @@ use borrow.Author.Needs.{needs}
 use borrow.Author.Tests.{le-leb, lt-leb}
 use mathlib.Core.Path.{_≡_, sym, _∙_}
 use mathlib.Core.Bool.{true}
+use Rattle.property.specs.Status.{maxStatus}
 use Rattle.device.specs.Rules.{sized, linkRule}
 use Rattle.device.proofs.LawsRules.{sized-by}
 use Rattle.device.proofs.rules.link_keeps.Statement.{statement}
@@ -19,7 +20,7 @@ link-keeps-spec =
     tie.close
     (tie.spec
     (λ c. let l = c .before .before .before .before .before .before .before .args .link in
-    rw (sizes (c .before), lt-leb (l .status) 127 (omega arith)))
+    rw (sizes (c .before), lt-leb (l .status) maxStatus (omega arith)))
     (λ c κs. search needs)
     (λ c κs. search needs)
     (λ c. search needs)

@@ -4,7 +4,7 @@ use native.Mathlib.Omega.{arith}
 use borrow.Author.Needs.{needs}
 use borrow.Author.Tests.{eq-eqb, ne-eqb, lt-ltb, le-ltb}
 use lib.ListN.{length}
-use Rattle.device.specs.State.{octetsOf}
+use Rattle.device.specs.State.{octetsOf, maxPorts}
 use Rattle.device.proofs.StateRules.{ports-room, ports-even}
 use Rattle.method.specs.Perform.{portsHeld, insertPort}
 use Rattle.method.proofs.LawsItems.{ports-count, port-held, port-missing}
@@ -30,7 +30,7 @@ full c =
     let room = ports-room _ (start .pre) in
     let no = port-missing _ _ _ _ two (d .before .before .read-le .ensures) (d .find-port .ensures) (ports-even _ (start .pre)) (omega arith) in
     let count = ports-count (octetsOf (start .args .link .ports)) (ports-even _ (start .pre)) in
-    rw (eq-eqb _ _ two, no, le-ltb (length (portsHeld (start .args .link))) 8 (omega arith), c .refused3 .ensures)
+    rw (eq-eqb _ _ two, no, le-ltb (length (portsHeld (start .args .link))) maxPorts (omega arith), c .refused3 .ensures)
 
 more : tie.Need-returns-4
 unfolding insertPort
@@ -41,7 +41,7 @@ more c =
     let room = ports-room _ (start .pre) in
     let no = port-missing _ _ _ _ two (d .before .before .read-le .ensures) (d .find-port .ensures) (ports-even _ (start .pre)) (omega arith) in
     let count = ports-count (octetsOf (start .args .link .ports)) (ports-even _ (start .pre)) in
-    rw (eq-eqb _ _ two, no, lt-ltb (length (portsHeld (start .args .link))) 8 (omega arith), c .done .ensures, c .before .of .ensures)
+    rw (eq-eqb _ _ two, no, lt-ltb (length (portsHeld (start .args .link))) maxPorts (omega arith), c .done .ensures, c .before .of .ensures)
 
 pub insert-spec : {M : Type 1} → statement M
 unfolding insertPort

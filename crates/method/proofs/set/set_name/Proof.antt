@@ -10,6 +10,7 @@ use lib.ListN.{length}
 use lib.Seq.{length-take-le}
 use Rattle.octets.specs.Finding.{before}
 use Rattle.octets.proofs.LawsFinding.{before-most}
+use Rattle.device.specs.State.{maxName}
 use Rattle.device.proofs.LawsRules.{text-told}
 use Rattle.method.specs.Perform.{setName}
 use Rattle.method.proofs.set.set_name.Statement.{statement}
@@ -46,7 +47,7 @@ no-text c =
 of-requires : tie.Need-of-requires
 of-requires c κs =
     let t = c .before .before .before in
-    omega (arith, text-told 16 _ (sym (t .is-text .ensures) ∙ c .before .before .if2 .taken))
+    omega (arith, text-told maxName _ (sym (t .is-text .ensures) ∙ c .before .before .if2 .taken))
 
 pub set-name-spec : {M : Type 1} → statement M
 set-name-spec =

@@ -4,7 +4,7 @@ use native.Mathlib.Omega.{arith}
 use borrow.Author.Needs.{needs}
 use borrow.Author.Tests.{eq-eqb, ne-eqb, lt-ltb, le-ltb}
 use lib.ListN.{length}
-use Rattle.device.specs.State.{portsIn}
+use Rattle.device.specs.State.{portsIn, maxPorts}
 use Rattle.method.specs.Perform.{setPorts}
 use Rattle.method.proofs.LawsItems.{ports-count}
 use Rattle.method.proofs.set.set_ports.Statement.{statement}
@@ -17,7 +17,7 @@ full c =
     let xs = d .before .before .before .args .payload .now in
     let even = d .before .if1 .left in
     let count = ports-count xs even in
-    let many = lt-ltb 8 (length (portsIn xs)) (omega arith) in
+    let many = lt-ltb maxPorts (length (portsIn xs)) (omega arith) in
     rw (eq-eqb _ _ even, ← d .are-distinct .ensures, c .before .before .if2 .taken, many, c .refused2 .ensures)
 
 taken : tie.Need-returns-3
@@ -27,7 +27,7 @@ taken c =
     let xs = d .before .before .before .args .payload .now in
     let even = d .before .if1 .left in
     let count = ports-count xs even in
-    let few = le-ltb 8 (length (portsIn xs)) (omega arith) in
+    let few = le-ltb maxPorts (length (portsIn xs)) (omega arith) in
     let apart = c .before .before .before .before .if2 .taken in
     rw (eq-eqb _ _ even, ← d .are-distinct .ensures, apart, few, c .done .ensures, c .before .of .ensures, append-nil)
 

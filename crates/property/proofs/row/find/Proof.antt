@@ -6,16 +6,16 @@ use native.Mathlib.Omega.{arith}
 use lib.ListN.{drop}
 use Rattle.property.specs.declared.row.Row.{Row}
 use Rattle.property.specs.declared.row.Found.the-variants.{At}
-use Rattle.property.specs.Row.{rows, lookupIn, lookup}
+use Rattle.property.specs.Row.{rows, lookupIn, lookup, rowCount}
 use Rattle.property.proofs.TableRule.{hit, miss, past, rows-keep}
 use Rattle.property.proofs.row.find.Statement.{statement}
 use Rattle.property.proofs.row.find.Tie as tie
 
 abbrev Inv-loop : tie.InvT-loop
-Inv-loop id i₀ i = (i ≤ 20) × (lookup id ≡ lookupIn (drop i rows) id)
+Inv-loop id i₀ i = (i ≤ rowCount) × (lookup id ≡ lookupIn (drop i rows) id)
 
 abbrev μ-loop : tie.MeasureT-loop
-μ-loop id i₀ i = 20 - i
+μ-loop id i₀ i = rowCount - i
 
 loop-holds : tie.Need-loop-holds Inv-loop μ-loop
 unfolding lookup

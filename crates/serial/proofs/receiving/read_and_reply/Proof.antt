@@ -6,6 +6,7 @@ use native.Mathlib.Omega.{arith}
 use borrow.Author.Needs.{needs}
 use lib.ListN.{length, getD}
 use lib.Seq.{length-take-le, getD-take}
+use Rattle.octets.specs.Body.{maxBody, minBody}
 use Rattle.hdlc.specs.declared.reader.Fate.the-variants.{Checked}
 use Rattle.hdlc.specs.Reader.{assembling, outcome, run}
 use Rattle.hdlc.proofs.LawsReading.{tag-unchecked}
@@ -36,7 +37,7 @@ module _ (c : tie.After-known-told) where
       let r = call .read-frame .result in
       ap (λ f. outcome f (r .read) (r .reader) assembly) (sym (c .before .fate .given .1)) ∙ call .read-frame .ensures
 
-  fits : (2 ≤ count) × (count ≤ 1300) × (getD assembly 0 0 / 64 ≡ 2)
+  fits : (minBody ≤ count) × (count ≤ maxBody) × (getD assembly 0 0 / 64 ≡ 2)
   fits =
       let a = start .args .assembly .now in
       let t = checked-body _ a (start .args .input .now) count (rules-told _ (start .pre .0 .1)) (start .pre .1 .0) (ap (λ o. o .fate) (sym reads)) in

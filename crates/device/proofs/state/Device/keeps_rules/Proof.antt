@@ -7,6 +7,7 @@ use mathlib.Core.List.{List, map}
 use Prim.Native.Nat.{ℕ}
 use lib.Dec.{eqb}
 use lib.ListN.{length, length-map}
+use Rattle.device.specs.State.{maxLinks}
 use Rattle.device.specs.declared.state.Link.{Link}
 use Rattle.device.specs.Rules.{rules}
 use Rattle.device.proofs.state.Device.keeps_rules.Statement.{statement}
@@ -17,7 +18,7 @@ mapped : {B : Type 0} (f : Link → B) (l : List Link) (n : ℕ) → length (map
 mapped f l n e = sym (length-map l f) ∙ e
 
 links-size : (c : tie.After-links) → eqb (length (c .before .before .args .self .links)) 4 ≡ true
-links-size c = let size : length (c .before .before .args .self .links) ≡ 4 = search (needs, mapped) in eq-eqb _ _ size
+links-size c = let size : length (c .before .before .args .self .links) ≡ maxLinks = search (needs, mapped) in eq-eqb _ _ size
 
 pub keeps-rules-spec : {M : Type 1} → statement M
 unfolding rules

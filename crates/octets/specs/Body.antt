@@ -1,0 +1,14 @@
+-- Spinel bodies. Framing and the command engine both hold to these bounds, and know nothing of each other.
+use mathlib.Core.List.{List}
+use Prim.Native.Nat.{ℕ, _≤_}
+use lib.ListN.{length}
+
+-- 01, Octets on the wire: "Bodies have 2 to 1,300 octets"
+abbrev pub minBody : ℕ
+minBody = 2
+
+abbrev pub maxBody : ℕ
+maxBody = 1300
+
+abbrev pub Body : List ℕ → Type 0
+Body body = (minBody ≤ length body) × (length body ≤ maxBody)
