@@ -35,7 +35,8 @@ use Rattle.method.specs.declared.outcome.Outcome.{Outcome}
 use Rattle.method.specs.declared.outcome.Outcome.the-variants.{Done, Refused}
 use Rattle.method.specs.declared.set.PayloadNumber.{PayloadNumber}
 use Rattle.method.specs.declared.set.PayloadNumber.the-variants.{Good, Bad}
-use Rattle.method.specs.Perform.{valueIn, powerTo, setPower, setKind, perform}
+use Rattle.method.specs.Perform.{perform}
+use Rattle.method.specs.Set.{valueIn, powerTo, setPower, setKind}
 use Rattle.method.proofs.LawsEffects.{Quiet, Still, perform-still}
 use Rattle.method.proofs.LawsNumbers.{value-told, within-most}
 use Rattle.reply.specs.Value.{valueOf}

@@ -21,7 +21,9 @@ use Rattle.device.specs.declared.view.Effect.{Effect}
 use Rattle.device.specs.View.{after}
 use Rattle.method.specs.declared.outcome.Outcome.the-variants.{Done}
 use Rattle.method.specs.declared.outcome.Performed.{Performed}
-use Rattle.method.specs.Perform.{refused, insertPort, removePort, perform}
+use Rattle.method.specs.Perform.{perform}
+use Rattle.method.specs.Outcome.{refused}
+use Rattle.method.specs.Items.{insertPort, removePort}
 use Rattle.method.proofs.LawsKept.{perform-kept}
 use Rattle.reply.specs.Value.{valueOf}
 use Rattle.reply.specs.Reply.{content, maxContent}

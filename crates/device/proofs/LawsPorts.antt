@@ -10,7 +10,7 @@ use Rattle.octets.specs.LittleEndian.{le, leAt}
 use Rattle.octets.specs.Finding.{before}
 use Rattle.octets.proofs.LawsLists.{drop-next}
 use Rattle.octets.proofs.LawsFinding.{before-most}
-use Rattle.device.specs.State.{portsIn, holds, distinct}
+use Rattle.device.specs.Ports.{portsIn, holds, distinct}
 
 -- two octets and what follows them
 two : (xs zs : List ℕ) (x y : ℕ) → xs ≡ x ∷ y ∷ zs → portsIn xs ≡ le (take 2 xs) ∷ portsIn zs

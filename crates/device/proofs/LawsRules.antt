@@ -11,7 +11,8 @@ use Rattle.octets.proofs.LawsTests.{both-told}
 use Rattle.octets.proofs.LawsPadding.{pad-length, pad-front, pad-zeros}
 use Rattle.property.specs.Number.{slotCount}
 use Rattle.device.specs.declared.state.Link.{Link}
-use Rattle.device.specs.State.{isText, maxHeld}
+use Rattle.device.specs.State.{maxHeld}
+use Rattle.device.specs.Text.{isText}
 use Rattle.device.specs.Rules.{padded, textRule, sized}
 
 -- a padded count is within its array, so that so many octets stand at its front

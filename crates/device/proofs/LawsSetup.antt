@@ -8,7 +8,8 @@ use lib.Dec.{eqb, leb}
 use lib.ListN.{length}
 use Rattle.octets.proofs.LawsPadding.{pad-length}
 use Rattle.octets.proofs.LawsTests.{both-told}
-use Rattle.device.specs.State.{isText, fresh, addressSize, maxLinks, maxText, maxVendor}
+use Rattle.device.specs.State.{fresh, addressSize, maxLinks, maxText, maxVendor}
+use Rattle.device.specs.Text.{isText}
 use Rattle.device.specs.Rules.{settingsRule}
 use Rattle.device.specs.Setup.{isSetup, settingsFrom, refusal, setupFor}
 use Rattle.device.proofs.LawsRules.{text-pad}

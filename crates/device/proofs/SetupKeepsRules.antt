@@ -13,7 +13,9 @@ use Rattle.octets.proofs.LawsTests.{chosen}
 use Rattle.octets.proofs.LawsScanning.{all-of}
 use Rattle.property.specs.Number.{numbers, within}
 use Rattle.device.specs.declared.state.Settings.{Settings}
-use Rattle.device.specs.State.{goodText, isText, portsIn, distinct, defaults, freshLink, noLink, fresh, addressSize, maxText, maxLinks}
+use Rattle.device.specs.State.{defaults, freshLink, noLink, fresh, addressSize, maxText, maxLinks}
+use Rattle.device.specs.Text.{goodText, isText}
+use Rattle.device.specs.Ports.{portsIn, distinct}
 use Rattle.device.specs.Rules.{padded, textRule, portsRule, inRange, stackRule, sized, linkRule, atDefaults, isFresh, linkKept, settingsRule, rules}
 use Rattle.device.specs.Setup.{Report, isSetup, settingsFrom, refusal, setupFor}
 use Rattle.device.proofs.LawsSetup.{setup-rule, setup-told}

@@ -19,7 +19,8 @@ use Rattle.octets.proofs.LawsTests.{both-told}
 use Rattle.device.specs.declared.state.Link.{Link}
 use Rattle.device.specs.declared.state.Settings.{Settings}
 use Rattle.device.specs.declared.state.Device.{Device}
-use Rattle.device.specs.State.{octetsOf, portsIn, distinct, defaults, freshLink, noLink, maxHeld, maxText, maxVendor, addressSize, maxLinks}
+use Rattle.device.specs.State.{octetsOf, defaults, freshLink, noLink, maxHeld, maxText, maxVendor, addressSize, maxLinks}
+use Rattle.device.specs.Ports.{portsIn, distinct}
 use Rattle.device.specs.Rules.{padded, textRule, portsRule, inRange, stackRule, sized, linkRule, atDefaults, isFresh, linkKept, settingsRule, rules}
 use Rattle.device.proofs.LawsRules.{padded-within}
 

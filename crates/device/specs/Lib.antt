@@ -1,3 +1,5 @@
+pub mod Text
+pub mod Ports
 pub mod State
 pub mod Rules
 pub mod Setup

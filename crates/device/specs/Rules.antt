@@ -10,7 +10,9 @@ use Rattle.property.specs.Number.{numberAt, powerState, interfaceUp, stackUp, w
 use Rattle.device.specs.declared.state.Link.{Link}
 use Rattle.device.specs.declared.state.Settings.{Settings}
 use Rattle.device.specs.declared.state.Device.{Device}
-use Rattle.device.specs.State.{isText, portsIn, distinct, noLink, addressSize, maxHeld, maxLinks, maxText, maxVendor}
+use Rattle.device.specs.State.{noLink, addressSize, maxHeld, maxLinks, maxText, maxVendor}
+use Rattle.device.specs.Text.{isText}
+use Rattle.device.specs.Ports.{portsIn, distinct}
 
 -- "places past a count hold zero"
 unfoldable pub padded : List ℕ → ℕ → Bool

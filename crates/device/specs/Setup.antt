@@ -9,7 +9,8 @@ use Rattle.device.specs.declared.state.Device.{Device}
 use Rattle.device.specs.declared.set_up.Answer.{Answer}
 use Rattle.device.specs.declared.set_up.Answer.the-variants.{Ready, BadSetup}
 use Rattle.device.specs.declared.set_up.Configured.{Configured}
-use Rattle.device.specs.State.{isText, textFrom, fresh, addressSize, maxLinks, maxText, maxVendor}
+use Rattle.device.specs.State.{textFrom, fresh, addressSize, maxLinks, maxText, maxVendor}
+use Rattle.device.specs.Text.{isText}
 
 -- 01's number of an answer, and the box
 pub record Report : Type 0 where

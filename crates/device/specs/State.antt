@@ -1,10 +1,7 @@
 -- The state of the box (01, Setup and The property table).
-use Prim.Native.Nat.{ℕ, _+_, _*_}
-use mathlib.Core.Bool.{Bool, true, not, _&&_}
-use mathlib.Core.List.{List, [], _∷_, map}
-use lib.Dec.{eqb, ltb, leb}
+use Prim.Native.Nat.{ℕ}
+use mathlib.Core.List.{List, [], map}
 use lib.ListN.{length, take, replicate}
-use Rattle.octets.specs.Finding.{before}
 use Rattle.octets.specs.Padding.{pad}
 use Rattle.property.specs.Status.{resetStatus}
 use Rattle.property.specs.Number.{numbers}
@@ -58,33 +55,6 @@ textOf t = take (t .len) (t .octets)
 
 abbrev pub octetsOf : Held → List ℕ
 octetsOf h = take (h .len) (h .octets)
-
--- ---- texts
-
--- "without a zero"
-unfoldable pub goodText : List ℕ → Bool
-goodText xs = eqb (before 0 xs) (length xs)
-
--- a text of at most so many octets
-unfoldable pub isText : ℕ → List ℕ → Bool
-isText most xs = leb (length xs) most && goodText xs
-
--- ---- ports
-
--- the 16-bit little-endian numbers that octets stand for; an octet left over is none
-unfoldable pub portsIn : List ℕ → List ℕ
-portsIn [] = []
-portsIn (x ∷ []) = []
-portsIn (x ∷ y ∷ xs) = (x + 256 * y) ∷ portsIn xs
-
--- a number is among some
-unfoldable pub holds : ℕ → List ℕ → Bool
-holds v xs = ltb (before v xs) (length xs)
-
--- "ports distinct"
-unfoldable pub distinct : List ℕ → Bool
-distinct [] = true
-distinct (x ∷ xs) = not (holds x xs) && distinct xs
 
 -- ---- fresh states: "Fresh equals after reset"
 

@@ -4,7 +4,7 @@ ghost use mathlib.Core.Path.{_≡_};
 ghost use Prim.Native.Nat.{_+_, _*_, _≤_};
 ghost use lib.ListN.{length, drop};
 ghost use Rattle.octets.specs.Finding.{before};
-ghost use Rattle.device.specs.State.{portsIn, distinct};
+ghost use Rattle.device.specs.Ports.{portsIn, distinct};
 
 // The place of a port's first octet, from a place on; past the last whole port if it is not there.
 pub fn find_port(octets: &[u8], from: usize, port: u32) -> usize

@@ -1,7 +1,7 @@
 // Texts: the version text and a link's name.
 use octets::find_octet;
 ghost use mathlib.Core.Path.{_≡_};
-ghost use Rattle.device.specs.State.{isText};
+ghost use Rattle.device.specs.Text.{isText};
 
 // Whether octets are a text of at most so many.
 pub fn is_text(octets: &[u8], most: usize) -> bool

@@ -7,11 +7,15 @@ use Rattle.octets.specs.Padding.{pad}
 use Rattle.packed.specs.Packed.{packed, packedIn, joined, numberIn, packedAt}
 use Rattle.property.specs.Row.{rows, lookupIn, lookup, allows}
 use Rattle.property.specs.Number.{numbers, within}
-use Rattle.device.specs.State.{goodText, isText, portsIn, holds, distinct, defaults, fresh}
+use Rattle.device.specs.State.{defaults, fresh}
+use Rattle.device.specs.Text.{goodText, isText}
+use Rattle.device.specs.Ports.{portsIn, holds, distinct}
 use Rattle.device.specs.Setup.{isSetup, refusal, setupFor}
 use Rattle.device.specs.View.{powerAfter}
 use Rattle.request.specs.Verdict.{commandOf, byRow, byProperty, byCommand, verdict}
-use Rattle.method.specs.Perform.{getWith, valueIn, conflicts, numberTo, setNumber, powerTo, setPower, setName, setPorts, setKind, insertPort, without, removePort, perform}
+use Rattle.method.specs.Perform.{getWith, perform}
+use Rattle.method.specs.Set.{valueIn, conflicts, numberTo, setNumber, powerTo, setPower, setName, setPorts, setKind}
+use Rattle.method.specs.Items.{insertPort, without, removePort}
 use Rattle.reply.specs.Value.{fixedValue, numberValue, valueOf}
 use Rattle.reply.specs.Reply.{statusReply, replyCommand, content, successReply}
 use Rattle.command.specs.Decision.{replying, concluded, reached, judgedBy, judged, statusDecision, decisionOf, decide}

@@ -12,7 +12,9 @@ use Rattle.property.specs.declared.commands.Command.{Command}
 use Rattle.property.specs.declared.commands.Command.the-variants.{Get, Set, Insert, Remove}
 use Rattle.property.specs.declared.row.Kind.{Kind}
 use Rattle.property.specs.declared.row.Kind.the-variants.{ReadOnly, Power, Number as Kind·Number, Name, Ports}
-use Rattle.device.specs.State.{isText, portsIn, holds, distinct, maxName, maxPorts}
+use Rattle.device.specs.State.{maxName, maxPorts}
+use Rattle.device.specs.Text.{isText}
+use Rattle.device.specs.Ports.{portsIn, holds, distinct}
 use Rattle.device.specs.declared.state.Link.{Link}
 use Rattle.device.specs.declared.view.Effect.the-variants.{None}
 use Rattle.method.specs.declared.outcome.Outcome.{Outcome}
@@ -20,7 +22,9 @@ use Rattle.method.specs.declared.outcome.Outcome.the-variants.{Done, Ref
 use Rattle.method.specs.declared.outcome.Performed.{Performed}
 use Rattle.method.specs.declared.set.PayloadNumber.{PayloadNumber}
 use Rattle.method.specs.declared.set.PayloadNumber.the-variants.{Good, Bad}
-use Rattle.method.specs.Perform.{getWith, valueIn, conflicts, numberTo, setNumber, setName, setPorts, setKind, insertPort, portsHeld, removePort, perform}
+use Rattle.method.specs.Perform.{getWith, perform}
+use Rattle.method.specs.Set.{valueIn, conflicts, numberTo, setNumber, setName, setPorts, setKind}
+use Rattle.method.specs.Items.{insertPort, portsHeld, removePort}
 
 abbrev pub Quiet : Outcome → Type 0
 Quiet (Refused s) = Unit {0}

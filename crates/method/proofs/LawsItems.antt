@@ -10,9 +10,9 @@ use lib.ListN.{length, take, drop, length-append, length-take, length-drop}
 use Rattle.octets.specs.Finding.{before}
 use Rattle.octets.specs.LittleEndian.{le, leAt}
 use Rattle.octets.proofs.LawsTests.{by-test, and-l, and-r, both}
-use Rattle.device.specs.State.{portsIn, holds, distinct}
+use Rattle.device.specs.Ports.{portsIn, holds, distinct}
 use Rattle.device.proofs.LawsPorts.{ports-length, place-held, place-none}
-use Rattle.method.specs.Perform.{without}
+use Rattle.method.specs.Items.{without}
 use Rattle.method.proofs.LawsNumbers.{le-whole}
 
 -- ---- lists without a number

@@ -22,7 +22,9 @@ use Rattle.property.specs.declared.commands.Command.the-variants.{Get, Set, Ins
 use Rattle.property.specs.declared.row.Kind.{Kind}
 use Rattle.property.specs.declared.row.Kind.the-variants.{ReadOnly, Power, Number, Name, Ports}
 use Rattle.property.proofs.TableRule.{numbers-keep, outside-most}
-use Rattle.device.specs.State.{heldFrom, octetsOf, isText, portsIn, holds, distinct, maxHeld, maxName, maxPorts}
+use Rattle.device.specs.State.{heldFrom, octetsOf, maxHeld, maxName, maxPorts}
+use Rattle.device.specs.Text.{isText}
+use Rattle.device.specs.Ports.{portsIn, holds, distinct}
 use Rattle.device.specs.Rules.{padded, portsRule, inRange, stackRule, sized, linkRule}
 use Rattle.device.specs.declared.state.Link.{Link}
 use Rattle.device.proofs.LawsPorts.{ports-length}
@@ -33,7 +35,10 @@ use Rattle.method.specs.declared.outcome.Outcome.the-variants.{Done, Ref
 use Rattle.method.specs.declared.outcome.Performed.{Performed}
 use Rattle.method.specs.declared.set.PayloadNumber.{PayloadNumber}
 use Rattle.method.specs.declared.set.PayloadNumber.the-variants.{Good, Bad}
-use Rattle.method.specs.Perform.{done, refused, withNumbers, withName, withPorts, getWith, valueIn, conflicts, numberTo, setNumber, powerTo, setPower, setName, setPorts, setKind, insertPort, without, removePort, perform}
+use Rattle.method.specs.Perform.{getWith, perform}
+use Rattle.method.specs.Outcome.{done, refused, withNumbers, withName, withPorts}
+use Rattle.method.specs.Set.{valueIn, conflicts, numberTo, setNumber, powerTo, setPower, setName, setPorts, setKind}
+use Rattle.method.specs.Items.{insertPort, without, removePort}
 use Rattle.method.proofs.StackAndInterface.{conflict-test}
 use Rattle.method.proofs.LawsNumbers.{value-within}
 use Rattle.method.proofs.LawsItems.{distinct-snoc, distinct-less, ports-snoc, ports-without, length-without}

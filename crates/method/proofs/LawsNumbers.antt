@@ -12,7 +12,7 @@ use Rattle.octets.specs.LittleEndian.{le, leAt}
 use Rattle.octets.proofs.LawsTests.{by-test, impossible}
 use Rattle.property.specs.Number.{within}
 use Rattle.property.specs.declared.number.Number.{Number as Numeric}
-use Rattle.method.specs.Perform.{valueIn}
+use Rattle.method.specs.Set.{valueIn}
 use Rattle.method.specs.declared.set.PayloadNumber.the-variants.{Good}
 
 -- octets that are read whole

@@ -13,7 +13,7 @@ use Rattle.octets.proofs.LawsScanning.{all-at}
 use Rattle.octets.proofs.LawsTests.{by-test}
 use Rattle.property.specs.Number.{bool, numbers, numberAt, interfaceUp, stackUp, within, slotCount}
 use Rattle.device.specs.Rules.{inRange, stackRule}
-use Rattle.method.specs.Perform.{conflicts}
+use Rattle.method.specs.Set.{conflicts}
 use Rattle.method.proofs.LawsNumbers.{within-most}
 
 -- of two bools, the stack's and the interface's

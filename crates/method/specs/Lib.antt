@@ -1,1 +1,4 @@
+pub mod Outcome
+pub mod Set
+pub mod Items
 pub mod Perform

@@ -13,7 +13,7 @@ ghost use Prim.Native.Nat.{_+_, _≤_};
 ghost use lib.ListN.{length};
 ghost use Rattle.device.specs.Rules.{linkRule};
 ghost use Rattle.device.specs.State.{heldFrom, maxHeld};
-ghost use Rattle.method.specs.Perform.{insertPort, without, removePort};
+ghost use Rattle.method.specs.Items.{insertPort, without, removePort};
 
 pub fn insert(link: Link, payload: &[u8]) -> Performed
     requires { ⌜ linkRule link ≡ true ⌝ }

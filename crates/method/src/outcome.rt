@@ -2,7 +2,7 @@
 use device::Effect;
 use device::Link;
 ghost use mathlib.Core.Path.{_≡_};
-ghost use Rattle.method.specs.Perform.{done, refused};
+ghost use Rattle.method.specs.Outcome.{done, refused};
 
 pub enum Outcome {
     Done(Effect),

@@ -24,7 +24,7 @@ ghost use Prim.Native.Nat.{_<_, _≤_};
 ghost use Rattle.property.specs.Number.{slotCount};
 ghost use Rattle.property.specs.Rule.{rowRule};
 ghost use Rattle.device.specs.Rules.{linkRule};
-ghost use Rattle.method.specs.Perform.{valueIn, setNumber, setPower, setName, setPorts, setKind};
+ghost use Rattle.method.specs.Set.{valueIn, setNumber, setPower, setName, setPorts, setKind};
 
 pub enum PayloadNumber {
     Good(u32),

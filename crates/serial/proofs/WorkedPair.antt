@@ -13,7 +13,8 @@ use Rattle.frame.specs.Kind.{isFlag, isEscape, isSkipped}
 use Rattle.frame.specs.Fcs.{fcsBit, fcsBits, fcsOctet, fcsFrom, fcs}
 use Rattle.hdlc.specs.Reader.{bodyOf, checkOf, headed, frameFate, maxGathered}
 use Rattle.hdlc.specs.Wire.{kept, meant, pends, gathered, cutEscape, pieceFate, ended, grown, finished, unfinished, fated, fatesOf, pieceFateAt, call, callReads}
-use Rattle.device.specs.State.{goodText, isText, fresh, addressSize}
+use Rattle.device.specs.State.{fresh, addressSize}
+use Rattle.device.specs.Text.{goodText, isText}
 use Rattle.device.specs.Setup.{isSetup, setupFor}
 use Rattle.device.specs.declared.view.Effect.the-variants.{Reset, Powered}
 use Rattle.command.specs.Effects.{isReset, isPower, effectOf}

@@ -4,7 +4,7 @@ use Prim.Native.Nat.{_-_, _≤_}
 use native.Mathlib.Omega.{arith}
 use borrow.Author.Needs.{needs}
 use lib.ListN.{length, drop}
-use Rattle.device.specs.State.{portsIn, distinct}
+use Rattle.device.specs.Ports.{portsIn, distinct}
 use Rattle.device.proofs.LawsPorts.{place-most, place-held, place-none, distinct-on, distinct-stop, distinct-none}
 use Rattle.device.proofs.ports.are_distinct.Statement.{statement}
 use Rattle.device.proofs.ports.are_distinct.Tie as tie

@@ -5,7 +5,7 @@ use native.Mathlib.Omega.{arith}
 use borrow.Author.Needs.{needs}
 use lib.ListN.{length, drop}
 use Rattle.octets.specs.Finding.{before}
-use Rattle.device.specs.State.{portsIn}
+use Rattle.device.specs.Ports.{portsIn}
 use Rattle.device.proofs.LawsPorts.{port-here, port-on, port-none}
 use Rattle.device.proofs.ports.find_port.Statement.{statement}
 use Rattle.device.proofs.ports.find_port.Tie as tie

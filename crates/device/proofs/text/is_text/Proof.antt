@@ -2,7 +2,7 @@
 use borrow.Author.Needs.{needs}
 use borrow.Author.Tests.{le-leb, lt-leb}
 use native.Mathlib.Nat.{zero-add}
-use Rattle.device.specs.State.{goodText, isText}
+use Rattle.device.specs.Text.{goodText, isText}
 use Rattle.device.proofs.text.is_text.Statement.{statement}
 use Rattle.device.proofs.text.is_text.Tie as tie
 

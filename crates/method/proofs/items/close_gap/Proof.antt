@@ -6,7 +6,7 @@ use borrow.Author.Needs.{needs}
 use lib.ListN.{length-drop}
 use lib.Seq.{length-take-le}
 use Rattle.octets.proofs.LawsLists.{take-rest}
-use Rattle.method.specs.Perform.{without}
+use Rattle.method.specs.Items.{without}
 use Rattle.method.proofs.items.close_gap.Statement.{statement}
 use Rattle.method.proofs.items.close_gap.Tie as tie
 

@@ -6,7 +6,7 @@ use borrow.Author.Tests.{eq-eqb, ne-eqb, lt-ltb, le-ltb}
 use lib.ListN.{length}
 use Rattle.device.specs.State.{octetsOf, maxPorts}
 use Rattle.device.proofs.StateRules.{ports-room, ports-even}
-use Rattle.method.specs.Perform.{portsHeld, insertPort}
+use Rattle.method.specs.Items.{portsHeld, insertPort}
 use Rattle.method.proofs.LawsItems.{ports-count, port-held, port-missing}
 use Rattle.method.proofs.items.insert.Statement.{statement}
 use Rattle.method.proofs.items.insert.Tie as tie

@@ -4,7 +4,7 @@ use native.Mathlib.Omega.{arith}
 use borrow.Author.Needs.{needs}
 use borrow.Author.Tests.{eq-eqb, ne-eqb}
 use Rattle.device.proofs.StateRules.{ports-room, ports-even}
-use Rattle.method.specs.Perform.{removePort}
+use Rattle.method.specs.Items.{removePort}
 use Rattle.method.proofs.LawsItems.{port-held, port-missing, port-inside, port-place}
 use Rattle.method.proofs.items.remove.Statement.{statement}
 use Rattle.method.proofs.items.remove.Tie as tie

@@ -2,7 +2,7 @@
 use mathlib.Core.Path.{_∙_}
 use borrow.Author.Needs.{needs}
 use borrow.Author.Tests.{eq-eqb, ne-eqb}
-use Rattle.method.specs.Perform.{valueIn}
+use Rattle.method.specs.Set.{valueIn}
 use Rattle.method.proofs.LawsNumbers.{le-whole}
 use Rattle.method.proofs.set.read_number.Statement.{statement}
 use Rattle.method.proofs.set.read_number.Tie as tie

@@ -1,7 +1,7 @@
 -- Each arm is a clause of the definition; the row's rule bounds the slot.
 use borrow.Author.Needs.{needs}
 use Rattle.property.proofs.TableRule.{slot-below}
-use Rattle.method.specs.Perform.{setKind}
+use Rattle.method.specs.Set.{setKind}
 use Rattle.method.proofs.set.set.Statement.{statement}
 use Rattle.method.proofs.set.set.Tie as tie
 

@@ -12,7 +12,7 @@ use Rattle.octets.specs.Finding.{before}
 use Rattle.octets.proofs.LawsFinding.{before-most}
 use Rattle.device.specs.State.{maxName}
 use Rattle.device.proofs.LawsRules.{text-told}
-use Rattle.method.specs.Perform.{setName}
+use Rattle.method.specs.Set.{setName}
 use Rattle.method.proofs.set.set_name.Statement.{statement}
 use Rattle.method.proofs.set.set_name.Tie as tie
 

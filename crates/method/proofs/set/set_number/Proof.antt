@@ -11,7 +11,7 @@ use Rattle.property.proofs.TableRule.{width-most}
 use Rattle.device.specs.Rules.{stackRule, linkRule}
 use Rattle.device.specs.declared.state.Link.{Link}
 use Rattle.device.proofs.StateRules.{link-told, nine-numbers}
-use Rattle.method.specs.Perform.{valueIn, conflicts, numberTo, setNumber}
+use Rattle.method.specs.Set.{valueIn, conflicts, numberTo, setNumber}
 use Rattle.method.specs.declared.set.PayloadNumber.the-variants.{Good}
 use Rattle.method.proofs.LawsNumbers.{value-within}
 use Rattle.method.proofs.StackAndInterface.{conflict-test}

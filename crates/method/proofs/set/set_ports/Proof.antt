@@ -4,8 +4,9 @@ use native.Mathlib.Omega.{arith}
 use borrow.Author.Needs.{needs}
 use borrow.Author.Tests.{eq-eqb, ne-eqb, lt-ltb, le-ltb}
 use lib.ListN.{length}
-use Rattle.device.specs.State.{portsIn, maxPorts}
-use Rattle.method.specs.Perform.{setPorts}
+use Rattle.device.specs.State.{maxPorts}
+use Rattle.device.specs.Ports.{portsIn}
+use Rattle.method.specs.Set.{setPorts}
 use Rattle.method.proofs.LawsItems.{ports-count}
 use Rattle.method.proofs.set.set_ports.Statement.{statement}
 use Rattle.method.proofs.set.set_ports.Tie as tie

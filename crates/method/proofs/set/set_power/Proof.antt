@@ -3,7 +3,7 @@ use mathlib.Core.Path.{refl, sym, _∙_}
 use native.Mathlib.Omega.{arith}
 use borrow.Author.Needs.{needs}
 use Rattle.property.specs.Number.{powerState}
-use Rattle.method.specs.Perform.{setPower, powerTo}
+use Rattle.method.specs.Set.{setPower, powerTo}
 use Rattle.method.proofs.LawsNumbers.{value-within, within-most}
 use Rattle.method.proofs.set.set_power.Statement.{statement}
 use Rattle.method.proofs.set.set_power.Tie as tie
