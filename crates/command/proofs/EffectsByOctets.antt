@@ -9,6 +9,7 @@ use borrow.Author.Tests.{eq-eqb, eqb-true, leb-true, le-leb, le-ltb}
 use lib.Dec.{eqb, ltb, leb}
 use lib.ListN.{length, getD, drop, length-drop}
 use lib.Seq.{getD-drop}
+use Rattle.octets.specs.Body.{headerOf}
 use Rattle.octets.specs.LittleEndian.{le}
 use Rattle.octets.proofs.LawsTests.{by-test, and-l, and-r, both, impossible}
 use Rattle.packed.specs.Packed.{packed, packedIn, numberIn, packedAt}
@@ -29,7 +30,7 @@ use Rattle.device.specs.declared.view.Effect.the-variants.{None, Reset, Powered
 use Rattle.device.specs.View.{after}
 use Rattle.request.specs.declared.verdict.Verdict.{Verdict}
 use Rattle.request.specs.declared.verdict.Verdict.the-variants as verdict
-use Rattle.request.specs.Verdict.{commandOf, byRow, byProperty, byCommand, verdict as verdictOf, headerOf}
+use Rattle.request.specs.Verdict.{commandOf, byRow, byProperty, byCommand, verdict as verdictOf}
 use Rattle.request.proofs.LawsVerdict.{verdict-reach, verdict-reset}
 use Rattle.method.specs.declared.outcome.Outcome.{Outcome}
 use Rattle.method.specs.declared.outcome.Outcome.the-variants.{Done, Refused}

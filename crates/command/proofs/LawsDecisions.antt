@@ -7,6 +7,7 @@ use native.Mathlib.Omega.{arith}
 use borrow.Author.Tests.{eq-eqb}
 use lib.Dec.{leb, ltb}
 use lib.ListN.{length, drop}
+use Rattle.octets.specs.Body.{headerOf}
 use Rattle.octets.proofs.LawsTests.{by-test, chosen, impossible}
 use Rattle.property.specs.Commands.{headerFlag}
 use Rattle.property.specs.Status.{maxStatus}
@@ -18,7 +19,7 @@ use Rattle.device.specs.declared.state.Link.{Link}
 use Rattle.device.proofs.StateRules.{LinkFacts, link-told, link-from}
 use Rattle.device.specs.declared.view.View.{View}
 use Rattle.device.specs.View.{after}
-use Rattle.request.specs.Verdict.{headerOf, verdict as verdictOf}
+use Rattle.request.specs.Verdict.{verdict as verdictOf}
 use Rattle.request.specs.declared.verdict.Verdict.{Verdict}
 use Rattle.request.specs.declared.verdict.Verdict.the-variants as verdict
 use Rattle.request.proofs.LawsVerdict.{verdict-reset}

@@ -6,6 +6,7 @@ use mathlib.Core.List.{List}
 use Prim.Native.Nat.{ℕ, _≤_}
 use lib.Dec.{ltb, leb}
 use lib.ListN.{length, drop}
+use Rattle.octets.specs.Body.{headerOf}
 use Rattle.octets.proofs.LawsTests.{chosen}
 use Rattle.property.specs.Status.{maxStatus}
 use Rattle.property.specs.Rule.{rowRule}
@@ -19,7 +20,7 @@ use Rattle.device.specs.declared.view.View.{View}
 use Rattle.device.specs.View.{after}
 use Rattle.request.specs.declared.verdict.Verdict.{Verdict}
 use Rattle.request.specs.declared.verdict.Verdict.the-variants as verdict
-use Rattle.request.specs.Verdict.{verdict as verdictOf, headerOf}
+use Rattle.request.specs.Verdict.{verdict as verdictOf}
 use Rattle.request.proofs.LawsVerdict.{Small, verdict-reach, verdict-small}
 use Rattle.method.specs.declared.outcome.Outcome.{Outcome}
 use Rattle.method.specs.declared.outcome.Outcome.the-variants.{Done, Refused}

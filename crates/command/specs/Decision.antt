@@ -5,6 +5,7 @@ use mathlib.Core.List.{List}
 use mathlib.Core.Path.{_≡_}
 use lib.Dec.{ltb}
 use lib.ListN.{length, drop}
+use Rattle.octets.specs.Body.{headerOf}
 use Rattle.octets.specs.Writing.{Wrote}
 use Rattle.property.specs.Commands.{headerFlag}
 use Rattle.property.specs.Status.{resetStatus}
@@ -18,7 +19,7 @@ use Rattle.device.specs.declared.view.Effect.the-variants as effect
 use Rattle.device.specs.View.{after}
 use Rattle.request.specs.declared.verdict.Verdict.{Verdict}
 use Rattle.request.specs.declared.verdict.Verdict.the-variants as verdict
-use Rattle.request.specs.Verdict.{verdict as verdictOf, headerOf}
+use Rattle.request.specs.Verdict.{verdict as verdictOf}
 use Rattle.method.specs.declared.outcome.Outcome.{Outcome}
 use Rattle.method.specs.declared.outcome.Outcome.the-variants.{Done, Refused}
 use Rattle.method.specs.Perform.{perform}

@@ -5,13 +5,13 @@ use mathlib.Core.Bool.{true, false}
 use mathlib.Core.List.{List}
 use Prim.Native.Nat.{ℕ}
 use lib.ListN.{set}
+use Rattle.octets.specs.Body.{headerOf}
 use Rattle.device.specs.Rules.{settingsRule, linkRule}
 use Rattle.device.specs.declared.state.Link.{Link}
 use Rattle.device.specs.declared.state.Device.{Device}
 use Rattle.device.specs.declared.view.View.{View}
 use Rattle.device.specs.declared.view.Effect.{Effect}
 use Rattle.device.specs.View.{viewOf}
-use Rattle.request.specs.Verdict.{headerOf}
 use Rattle.reply.specs.Reply.{statusReply}
 use Rattle.command.specs.Decision.{withStatus, stopped, noop, success, judged, statusDecision, decisionOf, decide}
 use Rattle.command.proofs.LawsJudged.{judged-sound}

@@ -5,12 +5,12 @@ use mathlib.Core.List.{List}
 use Prim.Native.Nat.{ℕ}
 use native.Mathlib.Omega.{arith}
 use borrow.Author.Tests.{ltb-true}
+use Rattle.octets.specs.Body.{headerOf}
 use Rattle.octets.proofs.LawsTests.{chosen}
 use Rattle.device.specs.Rules.{rules}
 use Rattle.device.specs.declared.state.Device.{Device}
 use Rattle.device.proofs.StateRules.{settings-of, link-at}
 use Rattle.device.specs.View.{viewOf}
-use Rattle.request.specs.Verdict.{headerOf}
 use Rattle.reply.specs.Reply.{statusReply}
 use Rattle.command.specs.Decision.{judged, decide}
 use Rattle.command.proofs.LawsJudged.{judged-sound}

@@ -3,11 +3,11 @@ use mathlib.Core.Path.{_≡_, refl}
 use mathlib.Core.Bool.{cond, _&&_}
 use mathlib.Core.List.{List}
 use Prim.Native.Nat.{ℕ, _/_}
+use Rattle.octets.specs.Body.{headerOf}
 use Rattle.octets.proofs.LawsTests.{by-test, chosen}
 use Rattle.property.specs.Commands.{headerFlag}
 use Rattle.device.specs.declared.state.Device.{Device}
 use Rattle.device.specs.View.{viewOf}
-use Rattle.request.specs.Verdict.{headerOf}
 use Rattle.reply.specs.Reply.{statusReply}
 use Rattle.command.specs.Effects.{isReset}
 use Rattle.command.proofs.LawsDecisions.{decide-header}

@@ -4,6 +4,7 @@ use mathlib.Core.Bool.{Bool, cond}
 use mathlib.Core.List.{List}
 use lib.Dec.{ltb}
 use lib.ListN.{set}
+use Rattle.octets.specs.Body.{headerOf}
 use Rattle.device.specs.State.{fresh}
 use Rattle.device.specs.declared.state.Link.{Link}
 use Rattle.device.specs.declared.state.Settings.{Settings}
@@ -11,7 +12,6 @@ use Rattle.device.specs.declared.state.Device.{Device}
 use Rattle.device.specs.declared.view.Effect.{Effect}
 use Rattle.device.specs.declared.view.Effect.the-variants.{None, Reset, Powered}
 use Rattle.device.specs.View.{viewOf}
-use Rattle.request.specs.Verdict.{headerOf}
 use Rattle.reply.specs.Reply.{statusReply}
 use Rattle.command.specs.Decision.{Decision, decide}
 

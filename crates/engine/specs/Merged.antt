@@ -3,6 +3,7 @@ use Prim.Native.Nat.{ℕ}
 use mathlib.Core.Bool.{Bool, cond, not, _&&_}
 use mathlib.Core.List.{List, [], _∷_, _++_, foldl}
 use lib.Dec.{eqb}
+use Rattle.octets.specs.Body.{headerOf}
 use Rattle.octets.specs.Runs.{each, emitted}
 use Rattle.device.specs.State.{freshLink}
 use Rattle.device.specs.declared.state.Settings.{Settings}
@@ -11,7 +12,6 @@ use Rattle.device.specs.declared.state.Link.{Link}
 use Rattle.device.specs.declared.view.View.{View}
 use Rattle.device.specs.declared.view.Effect.{Effect}
 use Rattle.device.specs.declared.view.Effect.the-variants.{None, Reset, Powered}
-use Rattle.request.specs.Verdict.{headerOf}
 use Rattle.reply.specs.Reply.{statusReply}
 use Rattle.command.specs.Decision.{decide}
 use Rattle.command.specs.Effects.{isReset, effectOf}

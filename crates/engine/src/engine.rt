@@ -10,11 +10,10 @@ ghost use mathlib.Core.Bool.{true};
 ghost use mathlib.Core.Path.{_≡_};
 ghost use Prim.Native.Nat.{_≤_, _<_, _/_};
 ghost use lib.ListN.{length};
-ghost use Rattle.octets.specs.Body.{maxBody, minBody};
+ghost use Rattle.octets.specs.Body.{maxBody, minBody, headerOf};
 ghost use Rattle.octets.specs.Writing.{Wrote};
 ghost use Rattle.device.specs.State.{maxLinks, maxReply};
 ghost use Rattle.device.specs.Rules.{rules};
-ghost use Rattle.request.specs.Verdict.{headerOf};
 ghost use Rattle.engine.specs.Engine.{affect, engine};
 
 // The box after a body, and how many octets its reply has, from the front of the space lent for it.

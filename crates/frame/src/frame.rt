@@ -24,7 +24,7 @@ fn write_escaped(out: &mut [u8], at: usize, octet: u8) -> usize
     write_octet(out, next, octet ^ 0x20)
 }
 
-// Each octet of a slice so.
+// Octets, each escaped where it must be.
 fn write_stuffed(out: &mut [u8], at: usize, octets: &[u8]) -> usize
     requires { ⌜ at + length (stuffed (now octets)) ≤ length (now out) ⌝ }
     ensures { λ next. ⌜ Wrote (now (out .entry)) (now (out .exit)) at next (stuffed (now (octets .entry))) ⌝ }

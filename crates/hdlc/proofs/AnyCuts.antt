@@ -1,4 +1,4 @@
--- PROMISE: however octets are cut into calls, what the calls tell are the verdicts and bodies of the pieces between the flags, in order,
+-- PROMISE: however octets are cut into calls, what the calls tell are the fates and bodies of the pieces between the flags, in order,
 -- and what they leave is the unfinished piece.
 use mathlib.Core.Bool.{cond}
 use mathlib.Core.Path.{_≡_, refl, sym, ap, ap₂, subst, _∙_}

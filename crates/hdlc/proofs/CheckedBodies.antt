@@ -20,7 +20,7 @@ use Rattle.hdlc.specs.Wire.{gathered, cutEscape, pieceFate, bodyIn, call
 use Rattle.hdlc.specs.States.{over, openPiece, closedForm}
 use Rattle.hdlc.proofs.LawsFates.{judged-checked}
 use Rattle.hdlc.proofs.LawsStates.{over-few}
-use Rattle.hdlc.proofs.LawsCalls.{call-verdict}
+use Rattle.hdlc.proofs.LawsCalls.{call-fate}
 use Rattle.hdlc.proofs.ClosedForm.{closed-form}
 
 -- of the piece that a call ended in
@@ -44,7 +44,7 @@ unfolding closedForm
 checked-body r a xs n keeps room =
     let p = openPiece r a in
     rw (closed-form r a xs keeps room)
-    (λ e. piece-checked (call p xs .state) a n (⊎-elim (λ u. impossible cc) (λ u. cc) (call-verdict xs p)))
+    (λ e. piece-checked (call p xs .state) a n (⊎-elim (λ u. impossible cc) (λ u. cc) (call-fate xs p)))
 
 -- the same of the body that fate 1 is given for
 pub checked-top : (r : Reader) (a xs : List ℕ) → Rules r → maxGathered ≤ length a

@@ -15,7 +15,7 @@ use Rattle.hdlc.specs.Reader.{decided, maxGathered, gathering, overlong,
 use Rattle.hdlc.specs.Rules.{Rules}
 use Rattle.hdlc.specs.Wire.{gathered, cutEscape, pieceFateAt, grown, call}
 use Rattle.hdlc.specs.States.{over, holding, openPiece, closedForm}
-use Rattle.hdlc.proofs.LawsStates.{over-few, over-more, over-length, gathering-state, overlong-state, fate-verdict, after-undecided, after-decided}
+use Rattle.hdlc.proofs.LawsStates.{over-few, over-more, over-length, gathering-state, overlong-state, fate-piece, after-undecided, after-decided}
 use Rattle.hdlc.proofs.LawsStuffing.{stuffed-gives, spelled}
 
 -- ---- after a piece
@@ -26,9 +26,9 @@ call-closed [] p a room = refl
 call-closed (b ∷ bs) p a room =
     by-test (decided (pieceFateAt p b))
     (λ t.
-    simp (fate-verdict p a b, t) (λ i. record { fate = pieceFateAt p b; read = 1; state = after-decided p a b t i }))
+    simp (fate-piece p a b, t) (λ i. record { fate = pieceFateAt p b; read = 1; state = after-decided p a b t i }))
     (λ t.
-    simp (fate-verdict p a b, t, after-undecided p a b room t) (ap (later 1) (call-closed bs (grown p b) a room)))
+    simp (fate-piece p a b, t, after-undecided p a b room t) (ap (later 1) (call-closed bs (grown p b) a room)))
 
 -- ---- from any reader that keeps its rules
 

@@ -22,7 +22,7 @@ use Rattle.hdlc.proofs.ClosedForm.{call-closed}
 
 -- ---- the octets that a call read
 
--- the verdict of the piece that an octet ends
+-- the fate of the piece that an octet ends
 told-ends : (p : List ℕ) (b : ℕ) → fatesOf (ended p b) ≡ fated (pieceFateAt p b) (gathered p)
 unfolding fatesOf ended pieceFateAt fated
 told-ends p b = by-test (isFlag b) (λ f. simp f (append-nil (fated (pieceFate p) (gathered p)))) (λ f. simp f)
@@ -53,11 +53,11 @@ reads (b ∷ bs) p =
 -- ---- the body stands first in the buffer
 
 -- a call's fate is that of the piece that it ended in, if it has one
-pub call-verdict : (xs p : List ℕ) → (call p xs .fate ≡ Unfinished) ⊎ (call p xs .fate ≡ pieceFate (call p xs .state))
+pub call-fate : (xs p : List ℕ) → (call p xs .fate ≡ Unfinished) ⊎ (call p xs .fate ≡ pieceFate (call p xs .state))
 unfolding call pieceFateAt
-call-verdict [] p = inl refl
-call-verdict (b ∷ bs) p =
-    by-test (decided (pieceFateAt p b)) (λ t. simp t (inr (simp (decides-flag p b t)))) (λ t. simp t (call-verdict bs (grown p b)))
+call-fate [] p = inl refl
+call-fate (b ∷ bs) p =
+    by-test (decided (pieceFateAt p b)) (λ t. simp t (inr (simp (decides-flag p b t)))) (λ t. simp t (call-fate bs (grown p b)))
 
 told-over : (p a : List ℕ) → fated (pieceFate p) (over (gathered p) a) ≡ fated (pieceFate p) (gathered p)
 unfolding pieceFate fated
@@ -75,7 +75,7 @@ unfolding fated
 told-call p a xs =
     let q = call p xs .state in
     ⊎-elim (λ e. ap (λ f. fated f (over (gathered q) a)) e ∙ sym (ap (λ f. fated f (gathered q)) e))
-    (λ e. ap (λ f. fated f (over (gathered q) a)) e ∙ told-over q a ∙ sym (ap (λ f. fated f (gathered q)) e)) (call-verdict xs p)
+    (λ e. ap (λ f. fated f (over (gathered q) a)) e ∙ told-over q a ∙ sym (ap (λ f. fated f (gathered q)) e)) (call-fate xs p)
 
 -- ---- what a call leaves
 
@@ -111,7 +111,7 @@ closed-told : (c : Call) (a : List ℕ) → fated (closedForm c a .fate) (closed
 unfolding closedForm
 closed-told c a = refl
 
--- what a call tells is the verdict of the piece that it finished, if any
+-- what a call tells is the fate of the piece that it finished, if any
 pub call-tells : (p a xs : List ℕ) → maxGathered ≤ length a
     → fated (run (holding p a) xs .fate) (run (holding p a) xs .state .assembly) ≡ fatesOf (finished p (callReads p xs))
 call-tells p a xs room =

@@ -119,18 +119,18 @@ content-after p a b s room =
 
 -- ---- a flag
 
-pub flag-verdict : (p a : List ℕ) → flagFate (holding p a) ≡ pieceFate p
+pub flag-piece : (p a : List ℕ) → flagFate (holding p a) ≡ pieceFate p
 unfolding flagFate pieceFate
-flag-verdict p a =
+flag-piece p a =
     by-length p (λ many. ap flagFate (overlong-state p a many) ∙ simp (lt-ltb maxGathered (length (gathered p)) many))
     (λ few.
     ap flagFate (gathering-state p a few)
     ∙ simp (le-ltb maxGathered (length (gathered p)) few)
     (ap (λ l. cond (cutEscape p) CutEscape (cond (eqb (length (gathered p)) 0) Unfinished (frameFate l))) (take-append-seam (gathered p) _)))
 
-pub fate-verdict : (p a : List ℕ) (b : ℕ) → fateAt (holding p a) b ≡ pieceFateAt p b
+pub fate-piece : (p a : List ℕ) (b : ℕ) → fateAt (holding p a) b ≡ pieceFateAt p b
 unfolding fateAt pieceFateAt
-fate-verdict p a b = ap (λ f. cond (isFlag b) f Unfinished) (flag-verdict p a)
+fate-piece p a b = ap (λ f. cond (isFlag b) f Unfinished) (flag-piece p a)
 
 -- only a flag decides
 pub decides-flag : (p : List ℕ) (b : ℕ) → decided (pieceFateAt p b) ≡ true → isFlag b ≡ true

@@ -53,9 +53,9 @@ module _ (body : List ℕ) (size : Body body) (octets : Octets body) where
       )
       (ap headed checked-body)
 
-  frame-verdict : pieceFate (stuffed (checked body)) ≡ headed body
+  frame-piece : pieceFate (stuffed (checked body)) ≡ headed body
   unfolding pieceFate
-  frame-verdict =
+  frame-piece =
       let s = stuffed-gives (checked body) in
       simp (
         s .0,
@@ -67,7 +67,7 @@ module _ (body : List ℕ) (size : Body body) (octets : Octets body) where
 
   last-flag : call (stuffed (checked body)) (0x7e ∷ []) ≡ record { fate = headed body; read = 1; state = stuffed (checked body) }
   unfolding call pieceFateAt isFlag
-  last-flag = rw (frame-verdict, headed-decided body)
+  last-flag = rw (frame-piece, headed-decided body)
 
   frame-call : call [] (frame body) ≡ record { fate = headed body; read = length (frame body); state = stuffed (checked body) }
   unfolding frame

@@ -55,7 +55,7 @@ finished p xs = emitted ended grown p xs
 unfoldable pub unfinished : List ℕ → List ℕ → List ℕ
 unfinished p xs = foldl grown p xs
 
--- ---- the verdicts of pieces
+-- ---- the fates of pieces
 
 -- 01's number of a fate and, of a checked frame, its body; the gathered octets stand first in the list
 pub record Fated : Type 0 where

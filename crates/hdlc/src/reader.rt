@@ -92,7 +92,7 @@ impl Reader {
 }
 
 // The fate of gathered octets that are not too many and not cut in an escape.
-fn judge(gathered: &[u8]) -> Fate
+fn frame_fate(gathered: &[u8]) -> Fate
     ensures { λ r. ⌜ r ≡ frameFate (now (gathered .entry)) ⌝ }
 {
     let count = gathered.len();
@@ -124,7 +124,7 @@ fn flag_fate(reader: Reader, assembly: &[u8]) -> Fate
     if count == 0 {
         return Fate::Unfinished;
     }
-    judge(&assembly[..count])
+    frame_fate(&assembly[..count])
 }
 
 // One octet more is gathered; one too many starts the discard.

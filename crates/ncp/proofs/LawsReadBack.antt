@@ -7,6 +7,7 @@ use Prim.Native.Nat.{ℕ, _/_, _≤_}
 use native.Mathlib.Omega.{arith}
 use lib.ListN.{length, replicate, length-replicate}
 use lib.Seq.{take-append-seam}
+use Rattle.octets.specs.Body.{headerOf}
 use Rattle.octets.specs.Octets.{Octets}
 use Rattle.frame.specs.Frame.{checked, frame}
 use Rattle.frame.proofs.LawsFrame.{unframed-octets}
@@ -21,7 +22,6 @@ use Rattle.hdlc.proofs.LawsReading.{tag-unchecked}
 use Rattle.hdlc.proofs.ReaderRules.{fresh-rules}
 use Rattle.hdlc.proofs.CheckedBodies.{checked-body}
 use Rattle.hdlc.proofs.RoundTrip.{round-trip}
-use Rattle.request.specs.Verdict.{headerOf}
 use Rattle.command.proofs.LawsDecisions.{Bounded}
 use Rattle.ncp.specs.Turns.{readBack, bodyBack, GotBack}
 

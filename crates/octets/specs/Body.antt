@@ -1,7 +1,7 @@
 -- Spinel bodies. Framing and the command engine both hold to these bounds, and know nothing of each other.
 use mathlib.Core.List.{List}
 use Prim.Native.Nat.{ℕ, _≤_}
-use lib.ListN.{length}
+use lib.ListN.{length, getD}
 
 -- 01, Octets on the wire: "Bodies have 2 to 1,300 octets"
 abbrev pub minBody : ℕ
@@ -12,3 +12,7 @@ maxBody = 1300
 
 abbrev pub Body : List ℕ → Type 0
 Body body = (minBody ≤ length body) × (length body ≤ maxBody)
+
+-- "Header: two bits 10, two bits link, four bits transaction"
+abbrev pub headerOf : List ℕ → ℕ
+headerOf b = getD b 0 0

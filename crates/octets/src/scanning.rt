@@ -1,4 +1,4 @@
-// Zeros.
+// A test at every octet of a run.
 ghost use mathlib.Core.Path.{_≡_};
 ghost use Prim.Native.Nat.{_≤_};
 ghost use lib.ListN.{length};

@@ -3,7 +3,6 @@ use Prim.Native.Nat.{ℕ}
 use mathlib.Core.Bool.{cond}
 use mathlib.Core.List.{List}
 use lib.Dec.{eqb, ltb}
-use lib.ListN.{getD}
 use Rattle.packed.specs.Packed.{packedAt}
 use Rattle.packed.specs.declared.Packed.{Packed}
 use Rattle.packed.specs.declared.Packed.the-variants.{Number, Unreadable}
@@ -15,10 +14,6 @@ use Rattle.property.specs.declared.row.Found.{Found}
 use Rattle.property.specs.declared.row.Found.the-variants.{At, Unknown}
 use Rattle.request.specs.declared.verdict.Verdict.{Verdict}
 use Rattle.request.specs.declared.verdict.Verdict.the-variants.{Refuse, Noop, Reset, Reach}
-
--- "Header: two bits 10, two bits link, four bits transaction"
-abbrev pub headerOf : List ℕ → ℕ
-headerOf b = getD b 0 0
 
 -- "GET (2) and SET (3) ..; INSERT (4) .. and REMOVE (5)"
 unfoldable pub commandOf : ℕ → Command

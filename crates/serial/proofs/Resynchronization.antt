@@ -6,7 +6,7 @@ use mathlib.Core.Path.{_≡_, refl, sym, ap, subst, _∙_}
 use mathlib.Core.List.{List, [], _∷_, _++_, append-assoc, append-nil, map}
 use Prim.Native.Nat.{ℕ, _/_}
 use lib.Seq.{take-length}
-use Rattle.octets.specs.Body.{Body}
+use Rattle.octets.specs.Body.{Body, headerOf}
 use Rattle.octets.specs.Octets.{Octets}
 use Rattle.frame.specs.Kind.{isFlag}
 use Rattle.frame.specs.Frame.{stuffed, checked, frame}
@@ -14,7 +14,6 @@ use Rattle.hdlc.specs.Wire.{kept, gathered, cutEscape, pieceFate, ended, grown,
 use Rattle.hdlc.proofs.LawsFates.{headed-checked}
 use Rattle.hdlc.proofs.LawsPieces.{unfinished-append}
 use Rattle.hdlc.proofs.RoundTrip.{frame-told, frame-leaves}
-use Rattle.request.specs.Verdict.{headerOf}
 use Rattle.engine.specs.Engine.{engine}
 use Rattle.engine.specs.Merged.{deviceAfter, repliesTo}
 use Rattle.serial.specs.Histories.{Setup, deviceFrom, History, repliesIn, laid, checkedOf, checkedIn, bodies}

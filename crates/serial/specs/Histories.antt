@@ -116,7 +116,7 @@ laidFrom a p cs = emitted (readBy a) (λ q c. unfinished q (readBy a q c)) p cs
 unfoldable pub laid : History → List ℕ
 laid h = laidFrom (h .assembly) [] (h .calls)
 
--- "A checked frame is one with fate 1"; the bodies of those among verdicts
+-- "A checked frame is one with fate 1"; the bodies of those among pieces with fates
 unfoldable pub checkedOf : List Fated → List (List ℕ)
 checkedOf vs = each (λ v. cond (eqb (v .number) 1) (v .body ∷ []) []) vs
 

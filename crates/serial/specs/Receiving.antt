@@ -53,7 +53,7 @@ resultOf r a out =
 abbrev pub refused : Answer → Device → Reader → List ℕ → List ℕ → Result
 refused n d r a out = record { answer = n; read = 0; written = 0; device = d; reader = r; assembly = a; output = out }
 
--- fate 1, "frame unrefused": the engine's reply is framed at the front of the output, and behind it stands what the output held
+-- fate 1, "frame answered": the engine's reply is framed at the front of the output, and behind it stands what the output held
 abbrev pub replied : Outcome → Answered → List ℕ → Result
 replied o e out =
     record {

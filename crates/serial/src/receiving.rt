@@ -9,12 +9,11 @@ ghost use mathlib.Core.Bool.{true};
 ghost use mathlib.Core.Path.{_≡_};
 ghost use Prim.Native.Nat.{_≤_, _/_};
 ghost use lib.ListN.{length};
-ghost use Rattle.octets.specs.Body.{maxBody, minBody};
+ghost use Rattle.octets.specs.Body.{maxBody, minBody, headerOf};
 ghost use Rattle.frame.specs.Frame.{written, writing};
 ghost use Rattle.hdlc.specs.Reader.{maxGathered, assembling, run};
 ghost use Rattle.hdlc.specs.Rules.{rules as readerRules};
 ghost use Rattle.device.specs.Rules.{rules};
-ghost use Rattle.request.specs.Verdict.{headerOf};
 ghost use Rattle.engine.specs.Engine.{engine};
 ghost use Rattle.serial.specs.Receiving.{minOutput, resultOf, breaksRules, unrefused, receive};
 

@@ -20,18 +20,18 @@ returns-3 : tie.Need-returns-3
 unfolding flagFate
 returns-3 c = simp (c .before .before .if1 .left, c .before .if2 .left, eq-eqb _ _ (c .if3 .taken))
 
-slice-aggregate-judge : tie.Need-slice-aggregate-judge
-slice-aggregate-judge c = sym (length-take-le _ _ (omega arith))
+slice-aggregate-frame-fate : tie.Need-slice-aggregate-frame-fate
+slice-aggregate-frame-fate c = sym (length-take-le _ _ (omega arith))
 
-judge-requires : tie.Need-judge-requires
-judge-requires c κs = search needs
+frame-fate-requires : tie.Need-frame-fate-requires
+frame-fate-requires c κs = search needs
 
 returns-4 : tie.Need-returns-4
 unfolding flagFate
 returns-4 c =
     let t = c .before .before in
-    c .judge .ensures ∙ rw (t .before .before .if1 .left, t .before .if2 .left, ne-eqb _ _ (t .if3 .left))
+    c .frame-fate .ensures ∙ rw (t .before .before .if1 .left, t .before .if2 .left, ne-eqb _ _ (t .if3 .left))
 
 pub flag-fate-spec : {M : Type 1} → statement M
 flag-fate-spec =
-    tie.close (tie.spec returns returns-2 returns-3 slice-aggregate-judge judge-requires returns-4)
+    tie.close (tie.spec returns returns-2 returns-3 slice-aggregate-frame-fate frame-fate-requires returns-4)

@@ -1,4 +1,4 @@
--- Each way out has the tests that `judged` makes.
+-- Each way out has the tests that `frameFate` makes.
 use mathlib.Core.Bool.{cond}
 use mathlib.Core.Path.{_≡_, sym, ap₂, _∙_}
 use Prim.Native.Nat.{_-_, _/_}
@@ -12,8 +12,8 @@ use Rattle.frame.specs.Fcs.{fcs}
 use Rattle.hdlc.specs.declared.reader.Fate.the-variants.{Checked, BadHeader}
 use Rattle.hdlc.specs.Reader.{bodyOf, checkOf, frameFate}
 use Rattle.hdlc.proofs.LawsFates.{headed-gathered}
-use Rattle.hdlc.proofs.reader.judge.Statement.{statement}
-use Rattle.hdlc.proofs.reader.judge.Tie as tie
+use Rattle.hdlc.proofs.reader.frame_fate.Statement.{statement}
+use Rattle.hdlc.proofs.reader.frame_fate.Tie as tie
 
 returns : tie.Need-returns
 unfolding frameFate
@@ -68,8 +68,8 @@ returns-3 c = sym (right-check (c .before .before) ∙ rw (ne-eqb _ _ (c .if3 .t
 returns-4 : tie.Need-returns-4
 returns-4 c = sym (right-check (c .before .before) ∙ rw (eq-eqb _ _ (c .if3 .left)))
 
-pub judge-spec : {M : Type 1} → statement M
-judge-spec =
+pub frame-fate-spec : {M : Type 1} → statement M
+frame-fate-spec =
     tie.close
     (tie.spec
     returns
