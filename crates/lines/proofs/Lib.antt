@@ -1,0 +1,3 @@
+pub mod LawsLines
+pub mod LawsDigits
+pub mod LawsReading
