@@ -8,6 +8,9 @@ use Rattle.lines.specs.Line.{digits}
 abbrev pub space : ℕ
 space = 0x20
 
+abbrev pub lineEnd : ℕ
+lineEnd = 0x0a
+
 -- 0 to 9 and A to F
 unfoldable pub capitals : List ℕ
 capitals =
@@ -29,3 +32,8 @@ pub data Spells : List ℕ → List ℕ → Type 0 where
   last : {h l x : ℕ} → Two h l x → Spells (h ∷ l ∷ []) (x ∷ [])
   joined : {h l x y : ℕ} {text ys : List ℕ} → Two h l x → Spells text (y ∷ ys) → Spells (h ∷ l ∷ text) (x ∷ y ∷ ys)
   spaced : {h l x y : ℕ} {text ys : List ℕ} → Two h l x → Spells text (y ∷ ys) → Spells (h ∷ l ∷ space ∷ text) (x ∷ y ∷ ys)
+
+-- some octets, told by a text that spells them
+pub record Spelled (text : List ℕ) : Type 0 where
+  pub octets : List ℕ
+  pub spells : Spells text octets
