@@ -9,7 +9,7 @@ use Rattle.octets.specs.Octets.{Octets as AreOctets}
 use Rattle.lines.specs.declared.reader.HexLine.the-variants.{Octets}
 use Rattle.lines.specs.Line.{digits, separator, shown, lineOf}
 use Rattle.lines.specs.Spelling.{space, lineEnd, lower, Two, Spells, last, spaced}
-use Rattle.lines.specs.Reader.{line, readLine}
+use Rattle.lines.specs.Reader.{outcome, readLine}
 use Rattle.lines.proofs.ReadsSpelled.{reads-spelled}
 
 -- a line without its end
@@ -40,5 +40,5 @@ line-back x (y ∷ ys) o =
     }
 
 pub line-read : (x : ℕ) (xs : List ℕ) (o : AreOctets (x ∷ xs)) (out : List ℕ) → length (x ∷ xs) ≤ length out
-    → readLine (line-back x xs o .text) out ≡ line (Octets (length (x ∷ xs))) ((x ∷ xs) ++ drop (length (x ∷ xs)) out)
+    → readLine (line-back x xs o .text) out ≡ outcome (Octets (length (x ∷ xs))) ((x ∷ xs) ++ drop (length (x ∷ xs)) out)
 line-read x xs o out room = reads-spelled (line-back x xs o .spells) out room

@@ -11,7 +11,7 @@ use lib.Seq.{sets, sets-eq, length-take-le, length-sets, drop-cons}
 use Rattle.lines.specs.declared.reader.Place.the-variants.{Space}
 use Rattle.lines.specs.declared.reader.HexLine.the-variants.{Octets, More}
 use Rattle.lines.specs.Spelling.{space, Spells, none, last, joined, spaced}
-use Rattle.lines.specs.Reader.{fresh, at, Held, held, kept, stepFrom, reading, answer, finishedAt, line, ended, readLine}
+use Rattle.lines.specs.Reader.{fresh, at, Held, held, kept, stepFrom, reading, answer, finishedAt, outcome, ended, readLine}
 use Rattle.lines.proofs.LawsSpelling.{Open, two-letters, kept-at}
 use Rattle.lines.proofs.LawsKeeping.{behind, kept-place, all-kept, more-told}
 
@@ -48,7 +48,7 @@ front-kept xs out room =
     all-kept xs 0 false out (rw z room) ∙ ap (λ k. held (behind k false) (sets out 0 xs)) z ∙ ap (held (behind (length xs) false)) (at-front xs out room)
 
 pub reads-spelled : {text xs : List ℕ} → Spells text xs → (out : List ℕ) → length xs ≤ length out
-    → readLine text out ≡ line (Octets (length xs)) (xs ++ drop (length xs) out)
+    → readLine text out ≡ outcome (Octets (length xs)) (xs ++ drop (length xs) out)
 unfolding readLine reading finishedAt answer
 reads-spelled {xs = []} none out room = refl
 reads-spelled {xs = x ∷ xs} s out room = ap ended (keeps s (held fresh out) tt ∙ from-fresh out x xs ∙ front-kept (x ∷ xs) out room)
@@ -74,7 +74,7 @@ module _ (xs out : List ℕ) (most : length out < length xs) where
       ∙ more-told (getD xs (length out) 0) (drop (suc (length out)) xs) (length out) false kept-first (omega (arith, size))
 
 pub reads-first : {text xs : List ℕ} → Spells text xs → (out : List ℕ) → length out < length xs
-    → readLine text out ≡ line (More (length out)) (take (length out) xs)
+    → readLine text out ≡ outcome (More (length out)) (take (length out) xs)
 unfolding readLine reading finishedAt answer
 reads-first {xs = []} s out most = absurd (omega arith)
 reads-first {xs = x ∷ xs} s out most = ap ended (keeps s (held fresh out) tt ∙ from-fresh out x xs ∙ overflowed (x ∷ xs) out most)

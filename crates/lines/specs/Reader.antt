@@ -92,15 +92,15 @@ abbrev pub finished : LineReader → HexLine
 finished r = finishedAt (r .place) r
 
 -- the whole: what it comes to, and the lent space after it
-pub record Line : Type 0 where
+pub record Outcome : Type 0 where
   pub answer : HexLine
   pub out : List ℕ
 
-abbrev pub line : HexLine → List ℕ → Line
-line a out = record { answer = a; out = out }
+abbrev pub outcome : HexLine → List ℕ → Outcome
+outcome a out = record { answer = a; out = out }
 
-abbrev pub ended : Held → Line
-ended h = line (finished (h .reader)) (h .out)
+abbrev pub ended : Held → Outcome
+ended h = outcome (finished (h .reader)) (h .out)
 
-unfoldable pub readLine : List ℕ → List ℕ → Line
+unfoldable pub readLine : List ℕ → List ℕ → Outcome
 readLine text out = ended (reading (held fresh out) text)

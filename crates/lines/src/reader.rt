@@ -1,7 +1,7 @@
 // The reader of a line of hex. Its state goes in and out by value, so that a line of any length is read in pieces; the octets that it keeps
 // stand in lent space.
 ghost use mathlib.Core.Path.{_≡_};
-ghost use Rattle.lines.specs.Reader.{digitOf, fresh, at, held, kept, first, second, step, reading, answer, finished, line, readLine};
+ghost use Rattle.lines.specs.Reader.{digitOf, fresh, at, held, kept, first, second, step, reading, answer, finished, outcome, readLine};
 
 // Where a reader stands in a line.
 pub enum Place {
@@ -31,7 +31,7 @@ pub enum HexLine {
     Octets(usize),
     // So many are kept, and the line spells more.
     More(usize),
-    // It spells no octets.
+    // The text is no spelling of octets. Those before the fault may be kept.
     NoOctets,
 }
 
@@ -173,7 +173,7 @@ impl LineReader {
 
 // A whole line, without its end.
 pub fn read_line(text: &[u8], out: &mut [u8]) -> HexLine
-    ensures { λ r. ⌜ line r (now (out .exit)) ≡ readLine (now (text .entry)) (now (out .entry)) ⌝ }
+    ensures { λ r. ⌜ outcome r (now (out .exit)) ≡ readLine (now (text .entry)) (now (out .entry)) ⌝ }
 {
     let reader = LineReader::fresh().read(text, out);
     reader.finish()
