@@ -7,3 +7,4 @@ pub mod ReadsSpelled
 pub mod AnyPieces
 pub mod SpelledOnly
 pub mod LineBack
+pub mod KeptInSpace

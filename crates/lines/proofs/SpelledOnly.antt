@@ -1,8 +1,8 @@
 -- PROMISE: only a text that spells octets is read as octets; every other one is answered `NoOctets`.
 use mathlib.Core.Bool.{cond}
-use mathlib.Core.Path.{_≡_, refl, sym, ap, subst, _∙_}
+use mathlib.Core.Path.{_≡_, refl, subst}
 use mathlib.Core.List.{List, [], _∷_}
-use Prim.Native.Nat.{ℕ, _+_, _*_, _/_, _%_, _<_}
+use Prim.Native.Nat.{ℕ, _+_, _*_, _/_, _%_}
 use native.Mathlib.Omega.{arith}
 use native.Mathlib.Nat.{mod-eq-of-lt}
 use borrow.Author.Tests.{ltb-true, eqb-true}
@@ -15,7 +15,7 @@ use Rattle.lines.specs.declared.reader.HexLine.{HexLine}
 use Rattle.lines.specs.declared.reader.HexLine.the-variants.{Octets, More, NoOctets}
 use Rattle.lines.specs.Spelling.{space, Digit, Two, Spells, none, last, joined, spaced, Spelled}
 use Rattle.lines.specs.Reader.{digitOf, fresh, at, Held, held, kept, first, second, stepFrom, reading, finishedAt, finished, readLine}
-use Rattle.lines.proofs.LawsSpelling.{digit, digit-less}
+use Rattle.lines.proofs.LawsSpelling.{digit}
 use Rattle.lines.proofs.LawsKeeping.{kept-place}
 
 -- a text that spells an octet at least
@@ -98,7 +98,7 @@ pub spelled-only : (text out : List ℕ) → (readLine text out .answer ≡ NoOc
 unfolding readLine Rest
 spelled-only text out taken = rest text (held fresh out) taken
 
--- so a text that spells none is answered so
+-- so a text that spells none is answered `NoOctets`
 refused : (text : List ℕ) (a : HexLine) → ((a ≡ NoOctets → ⊥) → Spelled text) → (Spelled text → ⊥) → a ≡ NoOctets
 refused text (Octets n) told not = absurd (not (told (λ e. impossible cc)))
 refused text (More n) told not = absurd (not (told (λ e. impossible cc)))

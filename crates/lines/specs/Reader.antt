@@ -77,10 +77,11 @@ step h c = stepFrom (h .reader .place) h c
 unfoldable pub reading : Held → List ℕ → Held
 reading h text = foldl step h text
 
--- its end: a line may end behind an octet, and where it has no letter
+-- where it is in order: how many octets are kept, and whether there are more
 unfoldable pub answer : LineReader → HexLine
 answer r = cond (r .more) (More (r .count)) (Octets (r .count))
 
+-- its end: it may end behind an octet, or before its first letter
 unfoldable pub finishedAt : Place → LineReader → HexLine
 finishedAt Start r = answer r
 finishedAt (Half high) r = NoOctets
@@ -91,7 +92,7 @@ finishedAt Wrong r = NoOctets
 abbrev pub finished : LineReader → HexLine
 finished r = finishedAt (r .place) r
 
--- the whole: what it comes to, and the lent space after it
+-- what it comes to, and the lent space after it
 pub record Outcome : Type 0 where
   pub answer : HexLine
   pub out : List ℕ
@@ -102,5 +103,6 @@ outcome a out = record { answer = a; out = out }
 abbrev pub ended : Held → Outcome
 ended h = outcome (finished (h .reader)) (h .out)
 
+-- a whole line, read at once into the lent space
 unfoldable pub readLine : List ℕ → List ℕ → Outcome
 readLine text out = ended (reading (held fresh out) text)

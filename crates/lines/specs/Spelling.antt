@@ -26,14 +26,14 @@ pub record Two (h l x : ℕ) : Type 0 where
   pub high : Digit h (x / 16)
   pub low : Digit l (x % 16)
 
--- no letter spells no octets; an octet stands last, or another one follows directly or behind a space
+-- a text of no letters spells zero octets; an octet stands last, or the next one follows it, directly or behind one space
 pub data Spells : List ℕ → List ℕ → Type 0 where
   none : Spells [] []
   last : {h l x : ℕ} → Two h l x → Spells (h ∷ l ∷ []) (x ∷ [])
   joined : {h l x y : ℕ} {text ys : List ℕ} → Two h l x → Spells text (y ∷ ys) → Spells (h ∷ l ∷ text) (x ∷ y ∷ ys)
   spaced : {h l x y : ℕ} {text ys : List ℕ} → Two h l x → Spells text (y ∷ ys) → Spells (h ∷ l ∷ space ∷ text) (x ∷ y ∷ ys)
 
--- some octets, told by a text that spells them
+-- octets that a text spells
 pub record Spelled (text : List ℕ) : Type 0 where
   pub octets : List ℕ
   pub spells : Spells text octets

@@ -13,7 +13,7 @@ pub enum Place {
     Octet,
     // Behind the space after an octet.
     Space,
-    // Behind a letter that cannot stand there. No more of the line is looked at.
+    // Behind a letter that has no place there. What follows changes nothing.
     Wrong,
 }
 

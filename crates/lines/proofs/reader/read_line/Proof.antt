@@ -1,5 +1,5 @@
 -- What a fresh reader reads, finished.
-use mathlib.Core.Path.{_≡_, ap, _∙_}
+use mathlib.Core.Path.{ap, _∙_}
 use borrow.Author.Needs.{needs}
 use Rattle.lines.specs.Reader.{outcome, ended, readLine}
 use Rattle.lines.proofs.reader.read_line.Statement.{statement}

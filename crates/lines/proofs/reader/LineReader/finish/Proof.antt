@@ -1,5 +1,5 @@
 -- Each arm has the place by which `finishedAt` goes.
-use mathlib.Core.Path.{sym, ap, _∙_}
+use mathlib.Core.Path.{_∙_}
 use borrow.Author.Needs.{needs}
 use Rattle.lines.specs.Reader.{finishedAt}
 use Rattle.lines.proofs.reader.LineReader.finish.Statement.{statement}

@@ -1,8 +1,8 @@
 -- Each way out has the test that `second` makes.
-use mathlib.Core.Path.{ap, _∙_}
+use mathlib.Core.Path.{_∙_}
 use borrow.Author.Needs.{needs}
 use borrow.Author.Tests.{lt-ltb, le-ltb}
-use Rattle.lines.specs.Reader.{held, second}
+use Rattle.lines.specs.Reader.{second}
 use Rattle.lines.proofs.reader.LineReader.second_digit.Statement.{statement}
 use Rattle.lines.proofs.reader.LineReader.second_digit.Tie as tie
 

@@ -1,8 +1,8 @@
 -- Each arm has the place by which `stepFrom` goes.
-use mathlib.Core.Path.{sym, ap, _∙_}
+use mathlib.Core.Path.{_∙_}
 use borrow.Author.Needs.{needs}
 use borrow.Author.Tests.{eq-eqb, ne-eqb}
-use Rattle.lines.specs.Reader.{held, stepFrom}
+use Rattle.lines.specs.Reader.{stepFrom}
 use Rattle.lines.proofs.reader.LineReader.step.Statement.{statement}
 use Rattle.lines.proofs.reader.LineReader.step.Tie as tie
 
