@@ -10,6 +10,8 @@ use lib.ListN.{length, take, drop, replicate}
 use lib.Seq.{length-sets, take-append-seam}
 use Rattle.octets.specs.Octets.{Octets}
 use Rattle.octets.proofs.LawsTests.{chosen}
+use Rattle.lines.specs.Line.{lineOf}
+use Rattle.lines.proofs.LawsLines.{line-length}
 use Rattle.frame.specs.Frame.{frame, writing}
 use Rattle.frame.proofs.FrameBounds.{frame-bounds}
 use Rattle.hdlc.specs.declared.reader.Reader.{Reader}
@@ -26,9 +28,7 @@ use Rattle.serial.specs.Receiving.{numberOf, minOutput, Result, breaksRules, un
 use Rattle.serial.proofs.LawsReceiving.{rules-kept}
 use Rattle.ncp.specs.declared.serve.Session.{Session}
 use Rattle.ncp.specs.declared.turn.Turn.{Turn}
-use Rattle.ncp.specs.Lines.{lineOf}
 use Rattle.ncp.specs.Turns.{received, replyBody, Took, GoesOn, bodyBack}
-use Rattle.ncp.proofs.LawsLines.{line-length}
 use Rattle.ncp.proofs.LawsReadBack.{frame-back}
 
 -- ---- what a turn builds on

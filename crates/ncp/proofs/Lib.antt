@@ -1,3 +1,2 @@
-pub mod LawsLines
 pub mod LawsReadBack
 pub mod LawsTurns

@@ -7,6 +7,7 @@ use lib.Dec.{eqb}
 use lib.ListN.{length, take, replicate}
 use Rattle.octets.specs.Octets.{Octets}
 use Rattle.octets.specs.Writing.{Wrote}
+use Rattle.lines.specs.Line.{lineOf}
 use Rattle.hdlc.specs.declared.reader.Reader.{Reader}
 use Rattle.hdlc.specs.Reader.{maxGathered, fresh, assembling, Outcome, run}
 use Rattle.hdlc.specs.Wire.{bodyIn}
@@ -17,7 +18,6 @@ use Rattle.serial.specs.declared.receiving.Answer.the-variants.{Read, BadState,
 use Rattle.serial.specs.Receiving.{numberOf, minOutput, Result, receive}
 use Rattle.ncp.specs.declared.serve.Session.{Session}
 use Rattle.ncp.specs.declared.turn.Turn.{Turn}
-use Rattle.ncp.specs.Lines.{lineOf}
 
 -- the receiving call, lent a cleared output
 abbrev pub received : Device → Reader → List ℕ → List ℕ → Result

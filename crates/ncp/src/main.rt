@@ -1,5 +1,4 @@
 // The program (01, Bodies and their replies): wire octets on standard input, and each reply body as a line of hex on standard output.
-mod line;
 mod serve;
 mod turn;
 

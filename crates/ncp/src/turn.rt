@@ -1,9 +1,9 @@
 // One call of the box, and its reply as a line.
-use crate::line::write_line;
 use device::Device;
 use hdlc::Fate;
 use hdlc::Reader;
 use hdlc::read_frame;
+use lines::write_line;
 use serial::receive;
 ghost use mathlib.Core.Path.{_≡_};
 ghost use lib.ListN.{replicate};

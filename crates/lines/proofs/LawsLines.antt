@@ -5,7 +5,7 @@ use Prim.Native.Nat.{ℕ, _+_, _*_, _-_, _≤_, _<_}
 use native.Mathlib.Omega.{arith}
 use lib.ListN.{length, getD, drop, length-drop, drop-of-length-le}
 use Rattle.octets.proofs.LawsLists.{drop-next}
-use Rattle.ncp.specs.Lines.{shown, lineOf}
+use Rattle.lines.specs.Line.{shown, lineOf}
 
 pub line-next : (xs : List ℕ) (i : ℕ) → i < length xs
     → lineOf (drop i xs) ≡ shown (getD xs i 0) (length xs - (i + 1)) ++ lineOf (drop (i + 1) xs)

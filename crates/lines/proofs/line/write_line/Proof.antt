@@ -6,10 +6,10 @@ use native.Mathlib.Omega.{arith}
 use lib.ListN.{length, drop}
 use lib.Seq.{sets}
 use Rattle.octets.proofs.LawsWriting.{wrote-then}
-use Rattle.ncp.specs.Lines.{shown, lineOf}
-use Rattle.ncp.proofs.LawsLines.{line-next, line-done, line-length}
-use Rattle.ncp.proofs.line.write_line.Statement.{statement}
-use Rattle.ncp.proofs.line.write_line.Tie as tie
+use Rattle.lines.specs.Line.{shown, lineOf}
+use Rattle.lines.proofs.LawsLines.{line-next, line-done, line-length}
+use Rattle.lines.proofs.line.write_line.Statement.{statement}
+use Rattle.lines.proofs.line.write_line.Tie as tie
 
 abbrev Inv-loop : tie.InvT-loop
 Inv-loop body out₀ i₀ next₀ out i next =

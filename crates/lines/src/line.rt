@@ -4,7 +4,7 @@ ghost use mathlib.Core.Path.{_≡_};
 ghost use Prim.Native.Nat.{_*_, _≤_};
 ghost use lib.ListN.{length};
 ghost use Rattle.octets.specs.Writing.{Wrote};
-ghost use Rattle.ncp.specs.Lines.{shown, lineOf};
+ghost use Rattle.lines.specs.Line.{shown, lineOf};
 
 const DIGITS: [u8; 16] = *b"0123456789abcdef";
 

@@ -1,9 +1,9 @@
 -- Each way out has the test that `separator` makes.
 use borrow.Author.Needs.{needs}
 use borrow.Author.Tests.{eq-eqb, ne-eqb}
-use Rattle.ncp.specs.Lines.{digits, separator, shown}
-use Rattle.ncp.proofs.line.shown.Statement.{statement}
-use Rattle.ncp.proofs.line.shown.Tie as tie
+use Rattle.lines.specs.Line.{digits, separator, shown}
+use Rattle.lines.proofs.line.shown.Statement.{statement}
+use Rattle.lines.proofs.line.shown.Tie as tie
 
 pub shown-spec : {M : Type 1} → statement M
 unfolding digits separator shown

@@ -1,0 +1,10 @@
+pub mod LawsLines
+pub mod LawsDigits
+pub mod LawsReading
+pub mod LawsSpelling
+pub mod LawsKeeping
+pub mod ReadsSpelled
+pub mod AnyPieces
+pub mod SpelledOnly
+pub mod LineBack
+pub mod KeptInSpace

@@ -1,0 +1,108 @@
+-- The reader of a line of hex, letter by letter. What a line is to spell is told apart from it, in Spelling.
+use mathlib.Core.Bool.{Bool, true, false, cond, _&&_}
+use mathlib.Core.List.{List, foldl}
+use Prim.Native.Nat.{ℕ, _+_, _-_, _*_, _%_}
+use lib.Dec.{ltb, leb, eqb}
+use lib.ListN.{length, set}
+use Rattle.lines.specs.declared.reader.Place.{Place}
+use Rattle.lines.specs.declared.reader.Place.the-variants.{Start, Half, Octet, Space, Wrong}
+use Rattle.lines.specs.declared.reader.LineReader.{LineReader}
+use Rattle.lines.specs.declared.reader.HexLine.{HexLine}
+use Rattle.lines.specs.declared.reader.HexLine.the-variants.{Octets, More, NoOctets}
+use Rattle.lines.specs.Spelling.{space}
+
+-- ---- letters
+
+-- what is no digit has this value
+abbrev pub noDigit : ℕ
+noDigit = 16
+
+unfoldable pub within : ℕ → ℕ → ℕ → Bool
+within least most c = leb least c && leb c most
+
+-- 0 to 9, a to f and A to F
+unfoldable pub digitOf : ℕ → ℕ
+digitOf c =
+    cond (within 0x30 0x39 c) (c - 0x30)
+    (cond (within 0x61 0x66 c) (c - 0x61 + 10)
+    (cond (within 0x41 0x46 c) (c - 0x41 + 10) noDigit))
+
+-- ---- states
+
+abbrev pub fresh : LineReader
+fresh = record { place = Start; count = 0; more = false }
+
+-- the same reader at another place
+abbrev pub at : LineReader → Place → LineReader
+at r p = record { place = p; count = r .count; more = r .more }
+
+-- a reader with the space that it is lent
+pub record Held : Type 0 where
+  pub reader : LineReader
+  pub out : List ℕ
+
+abbrev pub held : LineReader → List ℕ → Held
+held r out = record { reader = r; out = out }
+
+-- ---- one letter
+
+-- an octet is kept where there is room for it; where there is none, it is told that there are more
+unfoldable pub kept : Held → ℕ → Held
+kept h x =
+    cond (ltb (h .reader .count) (length (h .out)))
+    (held (record { place = Octet; count = h .reader .count + 1; more = h .reader .more }) (set (h .out) (h .reader .count) x))
+    (held (record { place = Octet; count = h .reader .count; more = true }) (h .out))
+
+-- the first digit of an octet, and the second one
+unfoldable pub first : LineReader → ℕ → LineReader
+first r c = cond (ltb (digitOf c) noDigit) (at r (Half (digitOf c))) (at r Wrong)
+
+unfoldable pub second : Held → ℕ → ℕ → Held
+second h high c = cond (ltb (digitOf c) noDigit) (kept h (high % 16 * 16 + digitOf c)) (held (at (h .reader) Wrong) (h .out))
+
+-- behind an octet there may be a space; wherever else an octet may start, there must be its first digit
+unfoldable pub stepFrom : Place → Held → ℕ → Held
+stepFrom Start h c = held (first (h .reader) c) (h .out)
+stepFrom (Half high) h c = second h high c
+stepFrom Octet h c = held (cond (eqb c space) (at (h .reader) Space) (first (h .reader) c)) (h .out)
+stepFrom Space h c = held (first (h .reader) c) (h .out)
+stepFrom Wrong h c = h
+
+abbrev pub step : Held → ℕ → Held
+step h c = stepFrom (h .reader .place) h c
+
+-- ---- a line
+
+-- one piece of it
+unfoldable pub reading : Held → List ℕ → Held
+reading h text = foldl step h text
+
+-- where it is in order: how many octets are kept, and whether there are more
+unfoldable pub answer : LineReader → HexLine
+answer r = cond (r .more) (More (r .count)) (Octets (r .count))
+
+-- its end: it may end behind an octet, or before its first letter
+unfoldable pub finishedAt : Place → LineReader → HexLine
+finishedAt Start r = answer r
+finishedAt (Half high) r = NoOctets
+finishedAt Octet r = answer r
+finishedAt Space r = NoOctets
+finishedAt Wrong r = NoOctets
+
+abbrev pub finished : LineReader → HexLine
+finished r = finishedAt (r .place) r
+
+-- what it comes to, and the lent space after it
+pub record Outcome : Type 0 where
+  pub answer : HexLine
+  pub out : List ℕ
+
+abbrev pub outcome : HexLine → List ℕ → Outcome
+outcome a out = record { answer = a; out = out }
+
+abbrev pub ended : Held → Outcome
+ended h = outcome (finished (h .reader)) (h .out)
+
+-- a whole line, read at once into the lent space
+unfoldable pub readLine : List ℕ → List ℕ → Outcome
+readLine text out = ended (reading (held fresh out) text)

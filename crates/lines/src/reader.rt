@@ -1,0 +1,180 @@
+// The reader of a line of hex. Its state goes in and out by value, so that a line of any length is read in pieces; the octets that it keeps
+// stand in lent space.
+ghost use mathlib.Core.Path.{_≡_};
+ghost use Rattle.lines.specs.Reader.{digitOf, fresh, at, held, kept, first, second, step, reading, answer, finished, outcome, readLine};
+
+// Where a reader stands in a line.
+pub enum Place {
+    // Before its first letter.
+    Start,
+    // Behind the first digit of an octet, which has this value.
+    Half(u8),
+    // Behind an octet.
+    Octet,
+    // Behind the space after an octet.
+    Space,
+    // Behind a letter that has no place there. What follows changes nothing.
+    Wrong,
+}
+
+pub struct LineReader {
+    pub place: Place,
+    // How many octets are kept, from the front of the lent space.
+    pub count: usize,
+    // There was no room for all.
+    pub more: bool,
+}
+
+// What a line comes to.
+pub enum HexLine {
+    // It spells so many octets, and all are kept.
+    Octets(usize),
+    // So many are kept, and the line spells more.
+    More(usize),
+    // The text is no spelling of octets. Those before the fault may be kept.
+    NoOctets,
+}
+
+// What is no digit has this value.
+const NO_DIGIT: u8 = 16;
+
+// The value of a digit in lower or upper case.
+fn digit_of(letter: u8) -> u8
+    ensures { λ r. ⌜ r ≡ digitOf letter ⌝ }
+{
+    match letter {
+        b'0'..=b'9' => letter - b'0',
+        b'a'..=b'f' => letter - b'a' + 10,
+        b'A'..=b'F' => letter - b'A' + 10,
+        _ => NO_DIGIT,
+    }
+}
+
+impl LineReader {
+    pub fn fresh() -> LineReader
+        ensures { λ r. ⌜ r ≡ fresh ⌝ }
+    {
+        LineReader {
+            place: Place::Start,
+            count: 0,
+            more: false,
+        }
+    }
+
+    // The same reader at another place.
+    fn at(self, place: Place) -> LineReader
+        ensures { λ r. ⌜ r ≡ at self place ⌝ }
+    {
+        LineReader {
+            place,
+            count: self.count,
+            more: self.more,
+        }
+    }
+
+    // An octet is kept where there is room for it.
+    fn keep(self, octet: u8, out: &mut [u8]) -> LineReader
+        ensures { λ r. ⌜ held r (now (out .exit)) ≡ kept (held self (now (out .entry))) octet ⌝ }
+    {
+        let count = self.count;
+        if count < out.len() {
+            out[count] = octet;
+            return LineReader {
+                place: Place::Octet,
+                count: count + 1,
+                more: self.more,
+            };
+        }
+        LineReader {
+            place: Place::Octet,
+            count,
+            more: true,
+        }
+    }
+
+    // The first digit of an octet.
+    fn first_digit(self, letter: u8) -> LineReader
+        ensures { λ r. ⌜ r ≡ first self letter ⌝ }
+    {
+        let digit = digit_of(letter);
+        if digit < NO_DIGIT {
+            return self.at(Place::Half(digit));
+        }
+        self.at(Place::Wrong)
+    }
+
+    // The second digit of an octet, behind the first one.
+    fn second_digit(self, high: u8, letter: u8, out: &mut [u8]) -> LineReader
+        ensures { λ r. ⌜ held r (now (out .exit)) ≡ second (held self (now (out .entry))) high letter ⌝ }
+    {
+        let digit = digit_of(letter);
+        if digit < NO_DIGIT {
+            return self.keep(high % 16 * 16 + digit, out);
+        }
+        self.at(Place::Wrong)
+    }
+
+    // One letter.
+    fn step(self, letter: u8, out: &mut [u8]) -> LineReader
+        ensures { λ r. ⌜ held r (now (out .exit)) ≡ step (held self (now (out .entry))) letter ⌝ }
+    {
+        let place = self.place;
+        match place {
+            Place::Start => self.first_digit(letter),
+            Place::Half(high) => self.second_digit(high, letter, out),
+            Place::Octet => {
+                if letter == b' ' {
+                    return self.at(Place::Space);
+                }
+                self.first_digit(letter)
+            }
+            Place::Space => self.first_digit(letter),
+            Place::Wrong => self,
+        }
+    }
+
+    // One piece of a line.
+    pub fn read(self, text: &[u8], out: &mut [u8]) -> LineReader
+        ensures { λ r. ⌜ held r (now (out .exit)) ≡ reading (held self (now (out .entry))) (now (text .entry)) ⌝ }
+    {
+        let mut reader = self;
+        let mut i: usize = 0;
+        while i < text.len() {
+            reader = reader.step(text[i], out);
+            i += 1;
+        }
+        reader
+    }
+
+    // What the octets of a line that is in order come to.
+    fn answer(self) -> HexLine
+        ensures { λ r. ⌜ r ≡ answer self ⌝ }
+    {
+        if self.more {
+            return HexLine::More(self.count);
+        }
+        HexLine::Octets(self.count)
+    }
+
+    // The line has ended.
+    pub fn finish(self) -> HexLine
+        ensures { λ r. ⌜ r ≡ finished self ⌝ }
+    {
+        let place = self.place;
+        match place {
+            Place::Start => self.answer(),
+            Place::Half(_) => HexLine::NoOctets,
+            Place::Octet => self.answer(),
+            Place::Space => HexLine::NoOctets,
+            Place::Wrong => HexLine::NoOctets,
+        }
+    }
+}
+
+// A whole line, without its end.
+pub fn read_line(text: &[u8], out: &mut [u8]) -> HexLine
+    ensures { λ r. ⌜ outcome r (now (out .exit)) ≡ readLine (now (text .entry)) (now (out .entry)) ⌝ }
+{
+    let reader = LineReader::fresh().read(text, out);
+    reader.finish()
+}
