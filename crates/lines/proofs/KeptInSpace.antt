@@ -13,21 +13,21 @@ use Rattle.lines.specs.declared.reader.LineReader.{LineReader}
 use Rattle.lines.specs.declared.reader.HexLine.{HexLine}
 use Rattle.lines.specs.declared.reader.HexLine.the-variants.{Octets, More, NoOctets}
 use Rattle.lines.specs.Spelling.{space}
-use Rattle.lines.specs.Reader.{digitOf, fresh, at, Held, held, kept, first, second, stepFrom, step, reading, answer, finishedAt, finished, readLine}
+use Rattle.lines.specs.Reader.{digitOf, fresh, at, Keeping, keeping, withOctet, first, second, stepFrom, step, reading, answer, finishedAt, finished, readLine}
 
-abbrev pub InSpace : Held → Type 0
+abbrev pub InSpace : Keeping → Type 0
 InSpace h = h .reader .count ≤ length (h .out)
 
 -- what a letter may change
-record Goes (h g : Held) : Type 0 where
+record Goes (h g : Keeping) : Type 0 where
   size : length (g .out) ≡ length (h .out)
   inside : InSpace h → InSpace g
 
-moved : (h : Held) (p : Place) → Goes h (held (at (h .reader) p) (h .out))
+moved : (h : Keeping) (p : Place) → Goes h (keeping (at (h .reader) p) (h .out))
 moved h p = record { size = refl; inside = λ i. i }
 
-kept-goes : (h : Held) (x : ℕ) → Goes h (kept h x)
-unfolding kept
+kept-goes : (h : Keeping) (x : ℕ) → Goes h (withOctet h x)
+unfolding withOctet
 kept-goes h x =
     chosen (Goes h) (ltb (h .reader .count) (length (h .out)))
     (λ t. let room = ltb-true (h .reader .count) (length (h .out)) t in
@@ -35,24 +35,24 @@ kept-goes h x =
     record { size = same; inside = λ i. omega arith })
     (λ t. record { size = refl; inside = λ i. i })
 
-first-goes : (h : Held) (c : ℕ) → Goes h (held (first (h .reader) c) (h .out))
+first-goes : (h : Keeping) (c : ℕ) → Goes h (keeping (first (h .reader) c) (h .out))
 unfolding first
-first-goes h c = chosen (λ r. Goes h (held r (h .out))) (ltb (digitOf c) 16) (λ t. moved h (Half (digitOf c))) (λ t. moved h Wrong)
+first-goes h c = chosen (λ r. Goes h (keeping r (h .out))) (ltb (digitOf c) 16) (λ t. moved h (Half (digitOf c))) (λ t. moved h Wrong)
 
-goes : (p : Place) (h : Held) (c : ℕ) → Goes h (stepFrom p h c)
+goes : (p : Place) (h : Keeping) (c : ℕ) → Goes h (stepFrom p h c)
 unfolding stepFrom second
 goes Start h c = first-goes h c
 goes (Half v) h c = chosen (Goes h) (ltb (digitOf c) 16) (λ t. kept-goes h _) (λ t. moved h Wrong)
-goes Octet h c = chosen (λ r. Goes h (held r (h .out))) (eqb c space) (λ t. moved h Space) (λ t. first-goes h c)
+goes Octet h c = chosen (λ r. Goes h (keeping r (h .out))) (eqb c space) (λ t. moved h Space) (λ t. first-goes h c)
 goes Space h c = first-goes h c
 goes Wrong h c = record { size = refl; inside = λ i. i }
 
-pub same-size : (text : List ℕ) (h : Held) → length (reading h text .out) ≡ length (h .out)
+pub same-size : (text : List ℕ) (h : Keeping) → length (reading h text .out) ≡ length (h .out)
 unfolding reading
 same-size [] h = refl
 same-size (c ∷ text) h = same-size text (step h c) ∙ goes (h .reader .place) h c .size
 
-pub kept-in-space : (text : List ℕ) (h : Held) → InSpace h → InSpace (reading h text)
+pub kept-in-space : (text : List ℕ) (h : Keeping) → InSpace h → InSpace (reading h text)
 unfolding reading
 kept-in-space [] h i = i
 kept-in-space (c ∷ text) h i = kept-in-space text (step h c) (goes (h .reader .place) h c .inside i)
@@ -75,11 +75,11 @@ counted Octet r = omega (arith, answered r)
 counted Space r = omega arith
 counted Wrong r = omega arith
 
-pub finished-in-space : (h : Held) → InSpace h → countOf (finished (h .reader)) ≤ length (h .out)
+pub finished-in-space : (h : Keeping) → InSpace h → countOf (finished (h .reader)) ≤ length (h .out)
 finished-in-space h i = omega (arith, counted (h .reader .place) (h .reader))
 
 pub line-in-space : (text out : List ℕ) → countOf (readLine text out .answer) ≤ length out
 unfolding readLine
 line-in-space text out =
-    let h = reading (held fresh out) text in
-    omega (arith, finished-in-space h (kept-in-space text (held fresh out) (omega arith)), same-size text (held fresh out))
+    let h = reading (keeping fresh out) text in
+    omega (arith, finished-in-space h (kept-in-space text (keeping fresh out) (omega arith)), same-size text (keeping fresh out))

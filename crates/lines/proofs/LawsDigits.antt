@@ -6,23 +6,23 @@ use native.Mathlib.Omega.{arith}
 use borrow.Author.Tests.{le-leb, lt-leb}
 use lib.Dec.{leb}
 use Rattle.octets.proofs.LawsTests.{both}
-use Rattle.lines.specs.Reader.{within, digitOf}
+use Rattle.lines.specs.Reader.{isBetween, digitOf}
 
 neither : (a : Bool) {b : Bool} → b ≡ false → a && b ≡ false
 neither true e = e
 neither false e = refl
 
 module _ (least most c : ℕ) where
-  inside : least ≤ c → c ≤ most → within least most c ≡ true
-  unfolding within
+  inside : least ≤ c → c ≤ most → isBetween least most c ≡ true
+  unfolding isBetween
   inside h k = both (leb least c) (leb c most) (le-leb _ _ h) (le-leb _ _ k)
 
-  below : c < least → within least most c ≡ false
-  unfolding within
+  below : c < least → isBetween least most c ≡ false
+  unfolding isBetween
   below h = rw (lt-leb _ _ h)
 
-  above : most < c → within least most c ≡ false
-  unfolding within
+  above : most < c → isBetween least most c ≡ false
+  unfolding isBetween
   above h = neither (leb least c) (lt-leb _ _ h)
 
 -- ---- the value of a letter, from 0 up

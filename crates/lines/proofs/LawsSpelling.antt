@@ -14,18 +14,18 @@ use Rattle.lines.specs.declared.reader.Place.the-variants.{Start, Half, 
 use Rattle.lines.specs.declared.reader.LineReader.{LineReader}
 use Rattle.lines.specs.Line.{digits}
 use Rattle.lines.specs.Spelling.{space, capitals, Digit, lower, upper, Two}
-use Rattle.lines.specs.Reader.{within, digitOf, at, Held, held, kept, first, second, stepFrom, step}
+use Rattle.lines.specs.Reader.{isBetween, digitOf, at, Keeping, keeping, withOctet, first, second, stepFrom, step}
 use Rattle.lines.proofs.LawsDigits.{behind-small}
 
 -- ---- digits
 
 -- both tables, place by place
 lower-table : allBelow 16 (λ v. eqb (digitOf (getD digits v 0)) v) ≡ true
-unfolding allBelow allFrom digits digitOf within
+unfolding allBelow allFrom digits digitOf isBetween
 lower-table = refl
 
 upper-table : allBelow 16 (λ v. eqb (digitOf (getD capitals v 0)) v) ≡ true
-unfolding allBelow allFrom capitals digitOf within
+unfolding allBelow allFrom capitals digitOf isBetween
 upper-table = refl
 
 pub digit-value : {c v : ℕ} → Digit c v → digitOf c ≡ v
@@ -41,7 +41,7 @@ listed : ℕ → Bool
 listed c = cond (ltb (digitOf c) 16) (cond (eqb (getD digits (digitOf c) 0) c) true (eqb (getD capitals (digitOf c) 0) c)) true
 
 all-listed : allBelow 0x67 listed ≡ true
-unfolding allBelow allFrom digits capitals digitOf within listed
+unfolding allBelow allFrom digits capitals digitOf isBetween listed
 all-listed = refl
 
 pub digit : (c : ℕ) → digitOf c < 16 → Digit c (digitOf c)
@@ -66,30 +66,30 @@ unfolding first
 first-digit r d = rw (digit-value d, lt-ltb _ _ (digit-less d))
 
 no-space : {c v : ℕ} → Digit c v → eqb c space ≡ false
-unfolding digitOf within
+unfolding digitOf isBetween
 no-space {c} d = ne-eqb c space (λ e. let none : digitOf c ≡ 16 = ap digitOf e in omega (arith, digit-less d, digit-value d))
 
-opens : {c v : ℕ} (p : Place) → Open p → (h : Held) → Digit c v → stepFrom p h c ≡ held (at (h .reader) (Half v)) (h .out)
+opens : {c v : ℕ} (p : Place) → Open p → (h : Keeping) → Digit c v → stepFrom p h c ≡ keeping (at (h .reader) (Half v)) (h .out)
 unfolding stepFrom
-opens Start o h d = ap (λ r. held r (h .out)) (first-digit (h .reader) d)
+opens Start o h d = ap (λ r. keeping r (h .out)) (first-digit (h .reader) d)
 opens (Half v) o h d = absurd o
 opens Octet o h d = rw (no-space d, first-digit (h .reader) d)
-opens Space o h d = ap (λ r. held r (h .out)) (first-digit (h .reader) d)
+opens Space o h d = ap (λ r. keeping r (h .out)) (first-digit (h .reader) d)
 opens Wrong o h d = absurd o
 
 -- where an octet is kept, the place before it does not matter
-pub kept-at : (h : Held) (p : Place) (x : ℕ) → kept (held (at (h .reader) p) (h .out)) x ≡ kept h x
-unfolding kept
+pub kept-at : (h : Keeping) (p : Place) (x : ℕ) → withOctet (keeping (at (h .reader) p) (h .out)) x ≡ withOctet h x
+unfolding withOctet
 kept-at h p x = refl
 
-closes : {c v : ℕ} (h : Held) (x : ℕ) → Digit c v → x / 16 < 16 → v ≡ x % 16 → second h (x / 16) c ≡ kept h x
+closes : {c v : ℕ} (h : Keeping) (x : ℕ) → Digit c v → x / 16 < 16 → v ≡ x % 16 → second h (x / 16) c ≡ withOctet h x
 unfolding second
 closes {v = v} h x d less e =
     let whole : x / 16 % 16 * 16 + v ≡ x = omega arith in
     rw (digit-value d, lt-ltb _ _ (digit-less d), whole)
 
-pub two-letters : {a b x : ℕ} (h : Held) → Open (h .reader .place) → Two a b x → step (step h a) b ≡ kept h x
+pub two-letters : {a b x : ℕ} (h : Keeping) → Open (h .reader .place) → Two a b x → step (step h a) b ≡ withOctet h x
 unfolding stepFrom
 two-letters {a} {b} {x} h o t =
     ap (λ g. step g b) (opens (h .reader .place) o h (t .high))
-    ∙ closes (held (at (h .reader) (Half (x / 16))) (h .out)) x (t .low) (digit-less (t .high)) refl ∙ kept-at h (Half (x / 16)) x
+    ∙ closes (keeping (at (h .reader) (Half (x / 16))) (h .out)) x (t .low) (digit-less (t .high)) refl ∙ kept-at h (Half (x / 16)) x

@@ -11,70 +11,70 @@ use lib.Seq.{sets, sets-eq, length-take-le, drop-cons}
 use Rattle.lines.specs.declared.reader.Place.the-variants.{Space}
 use Rattle.lines.specs.declared.reader.HexLine.the-variants.{Octets, More}
 use Rattle.lines.specs.Spelling.{space, Spells, none, last, joined, spaced}
-use Rattle.lines.specs.Reader.{fresh, at, Held, held, kept, stepFrom, reading, answer, finishedAt, outcome, ended, readLine}
+use Rattle.lines.specs.Reader.{fresh, at, Keeping, keeping, withOctet, stepFrom, reading, answer, finishedAt, outcome, ended, readLine}
 use Rattle.lines.proofs.LawsSpelling.{Open, two-letters, kept-at}
 use Rattle.lines.proofs.LawsKeeping.{behind, kept-place, all-kept, more-told}
 
 -- behind an octet another one may start, directly or behind a space
-kept-open : (h : Held) (x : ℕ) → Open (kept h x .reader .place)
+kept-open : (h : Keeping) (x : ℕ) → Open (withOctet h x .reader .place)
 kept-open h x = subst Open (sym (kept-place h x)) tt
 
-over-space : (h : Held) (x : ℕ) → stepFrom (kept h x .reader .place) (kept h x) space ≡ held (at (kept h x .reader) Space) (kept h x .out)
+over-space : (h : Keeping) (x : ℕ) → stepFrom (withOctet h x .reader .place) (withOctet h x) space ≡ keeping (at (withOctet h x .reader) Space) (withOctet h x .out)
 unfolding stepFrom
-over-space h x = ap (λ p. stepFrom p (kept h x) space) (kept-place h x)
+over-space h x = ap (λ p. stepFrom p (withOctet h x) space) (kept-place h x)
 
 -- the reader keeps what is spelled
-keeps : {text ys : List ℕ} {y : ℕ} → Spells text (y ∷ ys) → (h : Held) → Open (h .reader .place) → reading h text ≡ foldl kept h (y ∷ ys)
+keeps : {text ys : List ℕ} {y : ℕ} → Spells text (y ∷ ys) → (h : Keeping) → Open (h .reader .place) → reading h text ≡ foldl withOctet h (y ∷ ys)
 unfolding reading
 keeps (last t) h o = two-letters h o t
-keeps (joined {x = x} {text = text} t s) h o = ap (λ g. reading g text) (two-letters h o t) ∙ keeps s (kept h x) (kept-open h x)
+keeps (joined {x = x} {text = text} t s) h o = ap (λ g. reading g text) (two-letters h o t) ∙ keeps s (withOctet h x) (kept-open h x)
 keeps (spaced {x = x} {y = y} {text = text} {ys = ys} t s) h o =
-    let g = kept h x in
+    let g = withOctet h x in
     ap (λ k. reading k (space ∷ text)) (two-letters h o t) ∙ ap (λ k. reading k text) (over-space h x)
-    ∙ keeps s (held (at (g .reader) Space) (g .out)) tt ∙ ap (λ k. foldl kept k ys) (kept-at g Space y)
+    ∙ keeps s (keeping (at (g .reader) Space) (g .out)) tt ∙ ap (λ k. foldl withOctet k ys) (kept-at g Space y)
 
 -- at the start of a line
-from-fresh : (out : List ℕ) (x : ℕ) (xs : List ℕ) → foldl kept (held fresh out) (x ∷ xs) ≡ foldl kept (held (behind 0 false) out) (x ∷ xs)
-unfolding kept
+from-fresh : (out : List ℕ) (x : ℕ) (xs : List ℕ) → foldl withOctet (keeping fresh out) (x ∷ xs) ≡ foldl withOctet (keeping (behind 0 false) out) (x ∷ xs)
+unfolding withOctet
 from-fresh out x xs = refl
 
 at-front : (xs out : List ℕ) → length xs ≤ length out → sets out 0 xs ≡ xs ++ drop (length xs) out
 at-front xs out room = let z = zero-add (length xs) in sets-eq xs out 0 (rw z room) ∙ ap (λ n. xs ++ drop n out) z
 
 front-kept : (xs out : List ℕ) → length xs ≤ length out
-    → foldl kept (held (behind 0 false) out) xs ≡ held (behind (length xs) false) (xs ++ drop (length xs) out)
+    → foldl withOctet (keeping (behind 0 false) out) xs ≡ keeping (behind (length xs) false) (xs ++ drop (length xs) out)
 front-kept xs out room =
     let z = zero-add (length xs) in
-    all-kept xs 0 false out (rw z room) ∙ ap (λ k. held (behind k false) (sets out 0 xs)) z ∙ ap (held (behind (length xs) false)) (at-front xs out room)
+    all-kept xs 0 false out (rw z room) ∙ ap (λ k. keeping (behind k false) (sets out 0 xs)) z ∙ ap (keeping (behind (length xs) false)) (at-front xs out room)
 
 pub reads-spelled : {text xs : List ℕ} → Spells text xs → (out : List ℕ) → length xs ≤ length out
     → readLine text out ≡ outcome (Octets (length xs)) (xs ++ drop (length xs) out)
 unfolding readLine reading finishedAt answer
 reads-spelled {xs = []} none out room = refl
-reads-spelled {xs = x ∷ xs} s out room = ap ended (keeps s (held fresh out) tt ∙ from-fresh out x xs ∙ front-kept (x ∷ xs) out room)
+reads-spelled {xs = x ∷ xs} s out room = ap ended (keeps s (keeping fresh out) tt ∙ from-fresh out x xs ∙ front-kept (x ∷ xs) out room)
 
 -- the octets that fit, and one more at least behind them
 module _ (xs out : List ℕ) (most : length out < length xs) where
   size : length (take (length out) xs) ≡ length out
   size = length-take-le (length out) xs (omega arith)
 
-  filled : foldl kept (held (behind 0 false) out) (take (length out) xs) ≡ held (behind (length out) false) (take (length out) xs)
+  filled : foldl withOctet (keeping (behind 0 false) out) (take (length out) xs) ≡ keeping (behind (length out) false) (take (length out) xs)
   filled =
       front-kept (take (length out) xs) out (omega (arith, size))
-      ∙ ap (λ n. held (behind n false) (take (length out) xs ++ drop n out)) size
-      ∙ ap (held (behind (length out) false)) (ap (λ l. take (length out) xs ++ l) (drop-of-length-le out {i = length out} (omega arith)) ∙ append-nil _)
+      ∙ ap (λ n. keeping (behind n false) (take (length out) xs ++ drop n out)) size
+      ∙ ap (keeping (behind (length out) false)) (ap (λ l. take (length out) xs ++ l) (drop-of-length-le out {i = length out} (omega arith)) ∙ append-nil _)
 
-  overflowed : foldl kept (held (behind 0 false) out) xs ≡ held (behind (length out) true) (take (length out) xs)
+  overflowed : foldl withOctet (keeping (behind 0 false) out) xs ≡ keeping (behind (length out) true) (take (length out) xs)
   overflowed =
       let kept-first = take (length out) xs in
       let rest = drop (length out) xs in
-      ap (foldl kept (held (behind 0 false) out)) (sym (take-append-drop (length out) xs))
-      ∙ foldl-append kept (held (behind 0 false) out) kept-first rest ∙ ap (λ h. foldl kept h rest) filled
-      ∙ ap (foldl kept (held (behind (length out) false) kept-first)) (drop-cons xs (length out) 0 most)
+      ap (foldl withOctet (keeping (behind 0 false) out)) (sym (take-append-drop (length out) xs))
+      ∙ foldl-append withOctet (keeping (behind 0 false) out) kept-first rest ∙ ap (λ h. foldl withOctet h rest) filled
+      ∙ ap (foldl withOctet (keeping (behind (length out) false) kept-first)) (drop-cons xs (length out) 0 most)
       ∙ more-told (getD xs (length out) 0) (drop (suc (length out)) xs) (length out) false kept-first (omega (arith, size))
 
 pub reads-first : {text xs : List ℕ} → Spells text xs → (out : List ℕ) → length out < length xs
     → readLine text out ≡ outcome (More (length out)) (take (length out) xs)
 unfolding readLine reading finishedAt answer
 reads-first {xs = []} s out most = absurd (omega arith)
-reads-first {xs = x ∷ xs} s out most = ap ended (keeps s (held fresh out) tt ∙ from-fresh out x xs ∙ overflowed (x ∷ xs) out most)
+reads-first {xs = x ∷ xs} s out most = ap ended (keeps s (keeping fresh out) tt ∙ from-fresh out x xs ∙ overflowed (x ∷ xs) out most)

@@ -14,7 +14,7 @@ use Rattle.lines.specs.declared.reader.LineReader.{LineReader}
 use Rattle.lines.specs.declared.reader.HexLine.{HexLine}
 use Rattle.lines.specs.declared.reader.HexLine.the-variants.{Octets, More, NoOctets}
 use Rattle.lines.specs.Spelling.{space, Digit, Two, Spells, none, last, joined, spaced, Spelled}
-use Rattle.lines.specs.Reader.{digitOf, fresh, at, Held, held, kept, first, second, stepFrom, reading, finishedAt, finished, readLine}
+use Rattle.lines.specs.Reader.{digitOf, fresh, at, Keeping, keeping, withOctet, first, second, stepFrom, reading, finishedAt, finished, readLine}
 use Rattle.lines.proofs.LawsSpelling.{digit}
 use Rattle.lines.proofs.LawsKeeping.{kept-place}
 
@@ -32,7 +32,7 @@ Rest Octet text = (h l x : ℕ) → Two h l x → Some (h ∷ l ∷ text)
 Rest Space text = Some text
 Rest Wrong text = ⊥
 
-abbrev Taken : Held → List ℕ → Type 0
+abbrev Taken : Keeping → List ℕ → Type 0
 Taken h text = finished (reading h text .reader) ≡ NoOctets → ⊥
 
 spelled : {text : List ℕ} → Some text → Spelled text
@@ -48,14 +48,14 @@ ends Space r taken = absurd (taken refl)
 ends Wrong r taken = absurd (taken refl)
 
 -- one letter, where what follows it is known
-module _ (c : ℕ) (text : List ℕ) (h : Held) (follows : (g : Held) → Taken g text → Rest (g .reader .place) text) where
-  starts : Taken (held (first (h .reader) c) (h .out)) text → Some (c ∷ text)
+module _ (c : ℕ) (text : List ℕ) (h : Keeping) (follows : (g : Keeping) → Taken g text → Rest (g .reader .place) text) where
+  starts : Taken (keeping (first (h .reader) c) (h .out)) text → Some (c ∷ text)
   unfolding first Rest
   starts =
       by-test (ltb (digitOf c) 16)
       (λ t. let less = ltb-true (digitOf c) 16 t in
-      simp t (λ taken. follows (held (at (h .reader) (Half (digitOf c))) (h .out)) taken c (rw (mod-eq-of-lt less) (digit c less))))
-      (λ t. simp t (λ taken. absurd (follows (held (at (h .reader) Wrong) (h .out)) taken)))
+      simp t (λ taken. follows (keeping (at (h .reader) (Half (digitOf c))) (h .out)) taken c (rw (mod-eq-of-lt less) (digit c less))))
+      (λ t. simp t (λ taken. absurd (follows (keeping (at (h .reader) Wrong) (h .out)) taken)))
 
   completes : (v : ℕ) → Taken (second h v c) text → (a : ℕ) → Digit a (v % 16) → Some (a ∷ c ∷ text)
   unfolding second Rest
@@ -67,17 +67,17 @@ module _ (c : ℕ) (text : List ℕ) (h : Held) (follows : (g : Held) → Taken 
       let low : x % 16 ≡ digitOf c = omega arith in
       simp t
       (λ taken a d.
-      subst (λ p. Rest p text) (kept-place h x) (follows (kept h x) taken) a c x
+      subst (λ p. Rest p text) (kept-place h x) (follows (withOctet h x) taken) a c x
       (record { high = rw high d; low = rw low (digit c less) })))
-      (λ t. simp t (λ taken a d. absurd (follows (held (at (h .reader) Wrong) (h .out)) taken)))
+      (λ t. simp t (λ taken a d. absurd (follows (keeping (at (h .reader) Wrong) (h .out)) taken)))
 
-  separated : Taken (held (cond (eqb c space) (at (h .reader) Space) (first (h .reader) c)) (h .out)) text → (a b x : ℕ) → Two a b x → Some (a ∷ b ∷ c ∷ text)
+  separated : Taken (keeping (cond (eqb c space) (at (h .reader) Space) (first (h .reader) c)) (h .out)) text → (a b x : ℕ) → Two a b x → Some (a ∷ b ∷ c ∷ text)
   unfolding Rest
   separated =
       by-test (eqb c space)
       (λ t. simp t
       (λ taken a b x w.
-      let s = follows (held (at (h .reader) Space) (h .out)) taken in
+      let s = follows (keeping (at (h .reader) Space) (h .out)) taken in
       rw (eqb-true c space t) (record { octet = x; octets = s .octet ∷ s .octets; spells = spaced w (s .spells) })))
       (λ t. simp t (λ taken a b x w. let s = starts taken in record { octet = x; octets = s .octet ∷ s .octets; spells = joined w (s .spells) }))
 
@@ -89,14 +89,14 @@ module _ (c : ℕ) (text : List ℕ) (h : Held) (follows : (g : Held) → Taken 
   goes Space e taken = starts taken
   goes Wrong e taken = subst (λ p. Rest p text) e (follows h taken)
 
-rest : (text : List ℕ) (h : Held) → Taken h text → Rest (h .reader .place) text
+rest : (text : List ℕ) (h : Keeping) → Taken h text → Rest (h .reader .place) text
 unfolding reading
 rest [] h taken = ends (h .reader .place) (h .reader) taken
 rest (c ∷ text) h taken = goes c text h (rest text) (h .reader .place) refl taken
 
 pub spelled-only : (text out : List ℕ) → (readLine text out .answer ≡ NoOctets → ⊥) → Spelled text
 unfolding readLine Rest
-spelled-only text out taken = rest text (held fresh out) taken
+spelled-only text out taken = rest text (keeping fresh out) taken
 
 -- so a text that spells none is answered `NoOctets`
 refused : (text : List ℕ) (a : HexLine) → ((a ≡ NoOctets → ⊥) → Spelled text) → (Spelled text → ⊥) → a ≡ NoOctets

@@ -17,15 +17,15 @@ use Rattle.lines.specs.Spelling.{space}
 abbrev pub noDigit : ℕ
 noDigit = 16
 
-unfoldable pub within : ℕ → ℕ → ℕ → Bool
-within least most c = leb least c && leb c most
+unfoldable pub isBetween : ℕ → ℕ → ℕ → Bool
+isBetween least most c = leb least c && leb c most
 
 -- 0 to 9, a to f and A to F
 unfoldable pub digitOf : ℕ → ℕ
 digitOf c =
-    cond (within 0x30 0x39 c) (c - 0x30)
-    (cond (within 0x61 0x66 c) (c - 0x61 + 10)
-    (cond (within 0x41 0x46 c) (c - 0x41 + 10) noDigit))
+    cond (isBetween 0x30 0x39 c) (c - 0x30)
+    (cond (isBetween 0x61 0x66 c) (c - 0x61 + 10)
+    (cond (isBetween 0x41 0x46 c) (c - 0x41 + 10) noDigit))
 
 -- ---- states
 
@@ -37,44 +37,44 @@ abbrev pub at : LineReader → Place → LineReader
 at r p = record { place = p; count = r .count; more = r .more }
 
 -- a reader with the space that it is lent
-pub record Held : Type 0 where
+pub record Keeping : Type 0 where
   pub reader : LineReader
   pub out : List ℕ
 
-abbrev pub held : LineReader → List ℕ → Held
-held r out = record { reader = r; out = out }
+abbrev pub keeping : LineReader → List ℕ → Keeping
+keeping r out = record { reader = r; out = out }
 
 -- ---- one letter
 
 -- an octet is kept where there is room for it; where there is none, it is told that there are more
-unfoldable pub kept : Held → ℕ → Held
-kept h x =
+unfoldable pub withOctet : Keeping → ℕ → Keeping
+withOctet h x =
     cond (ltb (h .reader .count) (length (h .out)))
-    (held (record { place = Octet; count = h .reader .count + 1; more = h .reader .more }) (set (h .out) (h .reader .count) x))
-    (held (record { place = Octet; count = h .reader .count; more = true }) (h .out))
+    (keeping (record { place = Octet; count = h .reader .count + 1; more = h .reader .more }) (set (h .out) (h .reader .count) x))
+    (keeping (record { place = Octet; count = h .reader .count; more = true }) (h .out))
 
 -- the first digit of an octet, and the second one
 unfoldable pub first : LineReader → ℕ → LineReader
 first r c = cond (ltb (digitOf c) noDigit) (at r (Half (digitOf c))) (at r Wrong)
 
-unfoldable pub second : Held → ℕ → ℕ → Held
-second h high c = cond (ltb (digitOf c) noDigit) (kept h (high % 16 * 16 + digitOf c)) (held (at (h .reader) Wrong) (h .out))
+unfoldable pub second : Keeping → ℕ → ℕ → Keeping
+second h high c = cond (ltb (digitOf c) noDigit) (withOctet h (high % 16 * 16 + digitOf c)) (keeping (at (h .reader) Wrong) (h .out))
 
 -- behind an octet there may be a space; wherever else an octet may start, there must be its first digit
-unfoldable pub stepFrom : Place → Held → ℕ → Held
-stepFrom Start h c = held (first (h .reader) c) (h .out)
+unfoldable pub stepFrom : Place → Keeping → ℕ → Keeping
+stepFrom Start h c = keeping (first (h .reader) c) (h .out)
 stepFrom (Half high) h c = second h high c
-stepFrom Octet h c = held (cond (eqb c space) (at (h .reader) Space) (first (h .reader) c)) (h .out)
-stepFrom Space h c = held (first (h .reader) c) (h .out)
+stepFrom Octet h c = keeping (cond (eqb c space) (at (h .reader) Space) (first (h .reader) c)) (h .out)
+stepFrom Space h c = keeping (first (h .reader) c) (h .out)
 stepFrom Wrong h c = h
 
-abbrev pub step : Held → ℕ → Held
+abbrev pub step : Keeping → ℕ → Keeping
 step h c = stepFrom (h .reader .place) h c
 
 -- ---- a line
 
 -- one piece of it
-unfoldable pub reading : Held → List ℕ → Held
+unfoldable pub reading : Keeping → List ℕ → Keeping
 reading h text = foldl step h text
 
 -- where it is in order: how many octets are kept, and whether there are more
@@ -100,9 +100,9 @@ pub record Outcome : Type 0 where
 abbrev pub outcome : HexLine → List ℕ → Outcome
 outcome a out = record { answer = a; out = out }
 
-abbrev pub ended : Held → Outcome
+abbrev pub ended : Keeping → Outcome
 ended h = outcome (finished (h .reader)) (h .out)
 
 -- a whole line, read at once into the lent space
 unfoldable pub readLine : List ℕ → List ℕ → Outcome
-readLine text out = ended (reading (held fresh out) text)
+readLine text out = ended (reading (keeping fresh out) text)

@@ -1,7 +1,7 @@
 // The reader of a line of hex. Its state goes in and out by value, so that a line of any length is read in pieces; the octets that it keeps
 // stand in lent space.
 ghost use mathlib.Core.Path.{_≡_};
-ghost use Rattle.lines.specs.Reader.{digitOf, fresh, at, held, kept, first, second, step, reading, answer, finished, outcome, readLine};
+ghost use Rattle.lines.specs.Reader.{digitOf, fresh, at, keeping, withOctet, first, second, step, reading, answer, finished, outcome, readLine};
 
 // Where a reader stands in a line.
 pub enum Place {
@@ -74,7 +74,7 @@ impl LineReader {
 
     // An octet is kept where there is room for it.
     fn keep(self, octet: u8, out: &mut [u8]) -> LineReader
-        ensures { λ r. ⌜ held r (now (out .exit)) ≡ kept (held self (now (out .entry))) octet ⌝ }
+        ensures { λ r. ⌜ keeping r (now (out .exit)) ≡ withOctet (keeping self (now (out .entry))) octet ⌝ }
     {
         let count = self.count;
         if count < out.len() {
@@ -105,7 +105,7 @@ impl LineReader {
 
     // The second digit of an octet, behind the first one.
     fn second_digit(self, high: u8, letter: u8, out: &mut [u8]) -> LineReader
-        ensures { λ r. ⌜ held r (now (out .exit)) ≡ second (held self (now (out .entry))) high letter ⌝ }
+        ensures { λ r. ⌜ keeping r (now (out .exit)) ≡ second (keeping self (now (out .entry))) high letter ⌝ }
     {
         let digit = digit_of(letter);
         if digit < NO_DIGIT {
@@ -116,7 +116,7 @@ impl LineReader {
 
     // One letter.
     fn step(self, letter: u8, out: &mut [u8]) -> LineReader
-        ensures { λ r. ⌜ held r (now (out .exit)) ≡ step (held self (now (out .entry))) letter ⌝ }
+        ensures { λ r. ⌜ keeping r (now (out .exit)) ≡ step (keeping self (now (out .entry))) letter ⌝ }
     {
         let place = self.place;
         match place {
@@ -135,7 +135,7 @@ impl LineReader {
 
     // One piece of a line.
     pub fn read(self, text: &[u8], out: &mut [u8]) -> LineReader
-        ensures { λ r. ⌜ held r (now (out .exit)) ≡ reading (held self (now (out .entry))) (now (text .entry)) ⌝ }
+        ensures { λ r. ⌜ keeping r (now (out .exit)) ≡ reading (keeping self (now (out .entry))) (now (text .entry)) ⌝ }
     {
         let mut reader = self;
         let mut i: usize = 0;

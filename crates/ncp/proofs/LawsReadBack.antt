@@ -23,7 +23,7 @@ use Rattle.hdlc.proofs.ReaderRules.{fresh-rules}
 use Rattle.hdlc.proofs.CheckedBodies.{checked-body}
 use Rattle.hdlc.proofs.RoundTrip.{round-trip}
 use Rattle.command.proofs.LawsDecisions.{Bounded}
-use Rattle.ncp.specs.Turns.{readBack, bodyBack, GotBack}
+use Rattle.ncp.specs.Turn.{readBack, bodyBack, GotBack}
 
 cleared-room : maxGathered ≤ length {A = ℕ} (replicate maxGathered 0)
 cleared-room = omega (arith, length-replicate {A = ℕ} maxGathered 0)

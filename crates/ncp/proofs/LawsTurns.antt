@@ -20,6 +20,7 @@ use Rattle.hdlc.specs.Wire.{bodyIn}
 use Rattle.hdlc.proofs.LawsReading.{run-reads}
 use Rattle.hdlc.proofs.ReaderRules.{rules-told}
 use Rattle.hdlc.proofs.CheckedBodies.{checked-top}
+use Rattle.device.specs.State.{maxReply}
 use Rattle.device.specs.declared.state.Device.{Device}
 use Rattle.engine.specs.Engine.{engine}
 use Rattle.engine.proofs.ReplyBounds.{reply-bounds}
@@ -28,7 +29,7 @@ use Rattle.serial.specs.Receiving.{numberOf, minOutput, Result, breaksRules, un
 use Rattle.serial.proofs.LawsReceiving.{rules-kept}
 use Rattle.ncp.specs.declared.serve.Session.{Session}
 use Rattle.ncp.specs.declared.turn.Turn.{Turn}
-use Rattle.ncp.specs.Turns.{received, replyBody, Took, GoesOn, bodyBack}
+use Rattle.ncp.specs.Turn.{received, replyBody, Took, GoesOn, bodyBack, maxLine}
 use Rattle.ncp.proofs.LawsReadBack.{frame-back}
 
 -- ---- what a turn builds on
@@ -37,7 +38,7 @@ pub record Turned (d : Device) (input : List ℕ) (z : Result) : Type 0 where
   pub read : z .read ≤ length input
   pub written : z .written ≤ minOutput
   pub back : Octets (take (z .written) (z .output)) → bodyBack (take (z .written) (z .output)) ≡ replyBody d z
-  pub short : length (replyBody d z) ≤ 61
+  pub short : length (replyBody d z) ≤ maxReply
 
 -- a call that answers no frame
 silent : (d : Device) (input : List ℕ) (z : Result) → z .read ≤ length input → z .written ≡ 0 → eqb (numberOf (z .answer)) 1 ≡ false → Turned d input z
@@ -92,7 +93,7 @@ module _ (d : Device) (r : Reader) (input a : List ℕ) {a′ before after : Lis
   pub took-read : t .read ≤ length input
   took-read = omega (arith, turned d r input a (replicate minOutput 0) .read, w .read)
 
-  pub took-room : 183 ≤ length before → t .len ≤ length after
+  pub took-room : maxLine ≤ length before → t .len ≤ length after
   took-room h =
       let body = replyBody d (received d r input a) in
       omega (arith, turned d r input a (replicate minOutput 0) .short, w .line .end, line-length body, ap length (w .line .held), length-sets before 0 (lineOf body))

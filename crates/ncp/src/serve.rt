@@ -7,7 +7,7 @@ use libc::STDIN_FILENO;
 use libc::STDOUT_FILENO;
 ghost use Prim.Native.Nat.{_≤_};
 ghost use lib.ListN.{length};
-ghost use Rattle.ncp.specs.Turns.{received, GoesOn};
+ghost use Rattle.ncp.specs.Turn.{received, GoesOn};
 
 // The box and its reader between two calls.
 struct Session {

@@ -8,7 +8,7 @@ use serial::receive;
 ghost use mathlib.Core.Path.{_≡_};
 ghost use lib.ListN.{replicate};
 ghost use Rattle.hdlc.specs.Reader.{maxGathered};
-ghost use Rattle.ncp.specs.Turns.{GotBack, received, Took};
+ghost use Rattle.ncp.specs.Turn.{GotBack, received, Took};
 
 // The longest line: three octets for each of a reply's 61.
 pub const MAX_LINE: usize = 3 * Device::MAX_REPLY;

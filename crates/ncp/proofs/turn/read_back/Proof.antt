@@ -7,7 +7,7 @@ use borrow.Author.Needs.{needs}
 use Rattle.octets.specs.Octets.{Octets}
 use Rattle.hdlc.specs.Reader.{outcome}
 use Rattle.hdlc.proofs.ReaderRules.{fresh-rules, rules-hold}
-use Rattle.ncp.specs.Turns.{readBack}
+use Rattle.ncp.specs.Turn.{readBack}
 use Rattle.ncp.proofs.LawsReadBack.{back-checked, back-none}
 use Rattle.ncp.proofs.turn.read_back.Statement.{statement}
 use Rattle.ncp.proofs.turn.read_back.Tie as tie

@@ -6,7 +6,7 @@ use borrow.Author.Needs.{needs}
 use lib.ListN.{length, take}
 use lib.Seq.{length-take-le}
 use Rattle.serial.specs.Receiving.{Result, resultOf}
-use Rattle.ncp.specs.Turns.{replyBody}
+use Rattle.ncp.specs.Turn.{replyBody, maxLine}
 use Rattle.ncp.proofs.LawsTurns.{Turned, turned}
 use Rattle.ncp.proofs.turn.receive_line.Statement.{statement}
 use Rattle.ncp.proofs.turn.receive_line.Tie as tie
@@ -28,7 +28,7 @@ module _ (c : tie.After-read-back) where
   body : take (c .read-back .result) (c .read-back .last .1 .0) ≡ replyBody (call c .before .before .before .before .before .args .device) (result (call c))
   body = c .read-back .ensures .body ∙ facts (call c) .back (c .read-back .ensures .octets)
 
-  short : 3 * length (take (c .read-back .result) (c .read-back .last .1 .0)) ≤ 183
+  short : 3 * length (take (c .read-back .result) (c .read-back .last .1 .0)) ≤ maxLine
   short = rw body (omega (arith, facts (call c) .short))
 
 pub receive-line-spec : {M : Type 1} → statement M

@@ -1,12 +1,12 @@
 -- Each way out has the test that `kept` makes.
 use borrow.Author.Needs.{needs}
 use borrow.Author.Tests.{lt-ltb, le-ltb}
-use Rattle.lines.specs.Reader.{kept}
+use Rattle.lines.specs.Reader.{withOctet}
 use Rattle.lines.proofs.reader.LineReader.keep.Statement.{statement}
 use Rattle.lines.proofs.reader.LineReader.keep.Tie as tie
 
 pub keep-spec : {M : Type 1} → statement M
-unfolding kept
+unfolding withOctet
 keep-spec =
     tie.close
     (tie.spec

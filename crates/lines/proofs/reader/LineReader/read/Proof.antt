@@ -4,14 +4,14 @@ use Prim.Native.Nat.{_+_, _-_, _≤_}
 use native.Mathlib.Omega.{arith}
 use borrow.Author.Needs.{needs}
 use lib.ListN.{length, drop}
-use Rattle.lines.specs.Reader.{held, reading}
+use Rattle.lines.specs.Reader.{keeping, reading}
 use Rattle.lines.proofs.LawsReading.{reading-next, reading-done}
 use Rattle.lines.proofs.reader.LineReader.read.Statement.{statement}
 use Rattle.lines.proofs.reader.LineReader.read.Tie as tie
 
 abbrev Inv-loop : tie.InvT-loop
 Inv-loop text out₀ reader₀ i₀ out reader i =
-    (i ≤ length text) × (length out ≡ length out₀) × (reading (held reader out) (drop i text) ≡ reading (held reader₀ out₀) text)
+    (i ≤ length text) × (length out ≡ length out₀) × (reading (keeping reader out) (drop i text) ≡ reading (keeping reader₀ out₀) text)
 
 abbrev μ-loop : tie.MeasureT-loop
 μ-loop text out₀ reader₀ i₀ out reader i = length text - i

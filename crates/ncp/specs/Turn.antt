@@ -2,7 +2,7 @@
 use mathlib.Core.Bool.{cond}
 use mathlib.Core.List.{List, []}
 use mathlib.Core.Path.{_≡_}
-use Prim.Native.Nat.{ℕ, _≤_}
+use Prim.Native.Nat.{ℕ, _*_, _≤_}
 use lib.Dec.{eqb}
 use lib.ListN.{length, take, replicate}
 use Rattle.octets.specs.Octets.{Octets}
@@ -11,6 +11,7 @@ use Rattle.lines.specs.Line.{lineOf}
 use Rattle.hdlc.specs.declared.reader.Reader.{Reader}
 use Rattle.hdlc.specs.Reader.{maxGathered, fresh, assembling, Outcome, run}
 use Rattle.hdlc.specs.Wire.{bodyIn}
+use Rattle.device.specs.State.{maxReply}
 use Rattle.device.specs.declared.state.Device.{Device}
 use Rattle.engine.specs.Engine.{engine}
 use Rattle.serial.specs.declared.receiving.Answer.{Answer}
@@ -18,6 +19,10 @@ use Rattle.serial.specs.declared.receiving.Answer.the-variants.{Read, BadState,
 use Rattle.serial.specs.Receiving.{numberOf, minOutput, Result, receive}
 use Rattle.ncp.specs.declared.serve.Session.{Session}
 use Rattle.ncp.specs.declared.turn.Turn.{Turn}
+
+-- the longest line: three letters for each octet of a reply
+abbrev pub maxLine : ℕ
+maxLine = 3 * maxReply
 
 -- the receiving call, lent a cleared output
 abbrev pub received : Device → Reader → List ℕ → List ℕ → Result
