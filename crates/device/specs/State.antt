@@ -30,7 +30,7 @@ addressSize = 8
 abbrev pub maxName : ℕ
 maxName = 16
 
--- 92 assisting ports, "up to 8"
+-- 92 assisting ports, up to 8
 abbrev pub maxPorts : ℕ
 maxPorts = 8
 
