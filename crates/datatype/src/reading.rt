@@ -18,6 +18,7 @@ ghost use Rattle.typestring.specs.Calls.{PartFrom, ItemFrom};
 ghost use Rattle.datatype.specs.Answer.{reported, reportOf, filled, answerTo};
 ghost use Rattle.datatype.specs.Calls.{Room, ReadsPart, ReadsItem, fillingTo};
 
+// A payload is a slice; this type only has its limit.
 pub struct Payload {}
 
 impl Payload {

@@ -20,7 +20,7 @@ fn shown(octet: u8, left: usize) -> [u8; 3]
     [high, low, b' ']
 }
 
-// Writes a body's line from the front of `out` and returns how many octets it takes.
+// Writes a body's line from the front of `out` and returns how many letters it has.
 pub fn write_line(body: &[u8], out: &mut [u8]) -> usize
     requires { ⌜ 3 * length (now body) ≤ length (now out) ⌝ }
     ensures { λ next. ⌜ Wrote (now (out .entry)) (now (out .exit)) 0 next (lineOf (now (body .entry))) ⌝ }

@@ -1,5 +1,5 @@
 // Standard input and output around the box. No contract can say what is read or written there; it is run and compared.
-use crate::turn::MAX_LINE;
+use crate::turn::Turn;
 use crate::turn::receive_line;
 use device::Device;
 use hdlc::Reader;
@@ -23,7 +23,7 @@ fn serve_call(session: Session, input: &[u8], assembly: &mut [u8]) -> Session
     ensures read { λ s. ⌜ s .read ≤ length (now (input .entry)) ⌝ }
     ensures state { λ s. ⌜ GoesOn (received (session .device) (session .reader) (now (input .entry)) (now (assembly .entry))) s (now (assembly .exit)) ⌝ }
 {
-    let mut line = [0u8; MAX_LINE];
+    let mut line = [0u8; Turn::MAX_LINE];
     let turn = receive_line(session.device, session.reader, input, assembly, &mut line);
     let device = turn.device;
     let reader = turn.reader;

@@ -10,16 +10,18 @@ ghost use lib.ListN.{replicate};
 ghost use Rattle.hdlc.specs.Reader.{maxGathered};
 ghost use Rattle.ncp.specs.Turn.{GotBack, received, Took};
 
-// The longest line: three octets for each of a reply's 61.
-pub const MAX_LINE: usize = 3 * Device::MAX_REPLY;
-
 pub struct Turn {
     // How many octets of the input were read.
     pub read: usize,
     pub device: Device,
     pub reader: Reader,
-    // How many octets the line has, from the front of the space lent for it.
+    // How many letters the line has, from the front of the space lent for it.
     pub len: usize,
+}
+
+impl Turn {
+    // The longest line: three letters for each octet of a reply.
+    pub const MAX_LINE: usize = 3 * Device::MAX_REPLY;
 }
 
 // A reply comes framed, and its line shows the body: what a fresh reader reads from the frame into a cleared buffer. Returns how many octets
@@ -42,7 +44,7 @@ pub fn receive_line(
     reader: Reader,
     input: &[u8],
     assembly: &mut [u8],
-    line: &mut [u8; MAX_LINE],
+    line: &mut [u8; Turn::MAX_LINE],
 ) -> Turn
     ensures { λ t.
         ⌜ Took device (received device reader (now (input .entry)) (now (assembly .entry)))

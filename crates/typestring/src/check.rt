@@ -9,6 +9,7 @@ ghost use lib.ListN.{length, drop};
 ghost use Rattle.typestring.specs.Parse as parse;
 ghost use Rattle.typestring.specs.Calls.{Scanned, Stepped};
 
+// A type string is a slice; this type only has its limits.
 pub struct TypeString {}
 
 impl TypeString {
