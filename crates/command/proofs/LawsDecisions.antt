@@ -9,7 +9,7 @@ use lib.Dec.{leb, ltb}
 use lib.ListN.{length, drop}
 use Rattle.octets.specs.Body.{headerOf}
 use Rattle.octets.proofs.LawsTests.{by-test, chosen, impossible}
-use Rattle.property.specs.Commands.{headerFlag}
+use Rattle.property.specs.Commands.{spinelHeader}
 use Rattle.property.specs.Status.{maxStatus}
 use Rattle.property.specs.declared.commands.Command.{Command}
 use Rattle.property.specs.declared.row.Row.{Row}
@@ -75,6 +75,6 @@ header-by v b verdict.Noop e n = refl
 header-by v b verdict.Reset e n = impossible (cc (eq-eqb _ _ (verdict-reset b e)))
 header-by v b (verdict.Reach c r start) e n = concluded-header v (headerOf b) c r (drop start b) _ _
 
-pub decide-header : (v : View) (b : List ℕ) → headerOf (decide v b .reply) ≡ cond (isReset b) headerFlag (headerOf b)
+pub decide-header : (v : View) (b : List ℕ) → headerOf (decide v b .reply) ≡ cond (isReset b) spinelHeader (headerOf b)
 unfolding decide judged judgedBy decisionOf statusReply
 decide-header v b = by-test (isReset b) (λ t. rw (t, reset-verdict b t)) (λ t. rw t (header-by v b (verdictOf b) refl t))

@@ -7,7 +7,7 @@ use lib.Dec.{ltb}
 use lib.ListN.{length, drop}
 use Rattle.octets.specs.Body.{headerOf}
 use Rattle.octets.specs.Writing.{Wrote}
-use Rattle.property.specs.Commands.{headerFlag}
+use Rattle.property.specs.Commands.{spinelHeader}
 use Rattle.property.specs.Status.{resetStatus}
 use Rattle.property.specs.declared.commands.Command.{Command}
 use Rattle.property.specs.declared.row.Row.{Row}
@@ -75,7 +75,7 @@ statusDecision l h s = record { effect = effect.None; link = withStatus l s; rep
 unfoldable pub decisionOf : View → ℕ → Judged → Decision
 decisionOf v h (stopped s) = statusDecision (v .link) h s
 decisionOf v h noop = statusDecision (v .link) h 0
-decisionOf v h reset = record { effect = effect.Reset; link = v .link; reply = statusReply headerFlag resetStatus }
+decisionOf v h reset = record { effect = effect.Reset; link = v .link; reply = statusReply spinelHeader resetStatus }
 decisionOf v h (success e l reply) = record { effect = e; link = l; reply = reply }
 
 unfoldable pub decide : View → List ℕ → Decision

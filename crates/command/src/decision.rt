@@ -101,7 +101,7 @@ pub fn decide(view: View, body: &[u8], out: &mut [u8]) -> Decided
         Verdict::Noop => report_status(link, header, 0, out),
         Verdict::Reset => {
             // The announcement has transaction 0 and link 0, whoever asked.
-            let len = write_status(out, commands::HEADER_FLAG, status::RESET_SOFTWARE);
+            let len = write_status(out, commands::SPINEL_HEADER, status::RESET_SOFTWARE);
             Decided {
                 effect: Effect::Reset,
                 link,

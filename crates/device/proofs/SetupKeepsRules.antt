@@ -17,7 +17,7 @@ use Rattle.device.specs.State.{defaults, freshLink, noLink, fresh, addre
 use Rattle.device.specs.Text.{goodText, isText}
 use Rattle.device.specs.Ports.{portsIn, distinct}
 use Rattle.device.specs.Rules.{padded, textRule, portsRule, inRange, stackRule, sized, linkRule, atDefaults, isFresh, linkKept, settingsRule, rules}
-use Rattle.device.specs.Setup.{Report, isSetup, settingsFrom, refusal, setupFor}
+use Rattle.device.specs.Setup.{Report, isGoodSetup, settingsFrom, refusal, setupFor}
 use Rattle.device.proofs.LawsSetup.{setup-rule, setup-told}
 use Rattle.device.proofs.LawsRules.{text-told}
 
@@ -43,7 +43,7 @@ refusal-keeps : rules (refusal .device) ≡ true
 unfolding refusal settingsRule textRule padded isText goodText before pad zerosFrom allFrom
 refusal-keeps = fresh-keeps (settingsFrom 1 0 [] (replicate addressSize 0)) refl
 
-ready-keeps : (links vendor : ℕ) (text address : List ℕ) → isSetup links vendor text address ≡ true
+ready-keeps : (links vendor : ℕ) (text address : List ℕ) → isGoodSetup links vendor text address ≡ true
     → rules (fresh (settingsFrom links vendor text address)) ≡ true
 ready-keeps links vendor text address t =
     let f = setup-told links vendor text address t in
@@ -53,4 +53,4 @@ ready-keeps links vendor text address t =
 pub setup-keeps : (links vendor : ℕ) (text address : List ℕ) → rules (setupFor links vendor text address .device) ≡ true
 unfolding setupFor
 setup-keeps links vendor text address =
-    chosen (λ (r : Report). rules (r .device) ≡ true) (isSetup links vendor text address) (ready-keeps links vendor text address) (λ e. refusal-keeps)
+    chosen (λ (r : Report). rules (r .device) ≡ true) (isGoodSetup links vendor text address) (ready-keeps links vendor text address) (λ e. refusal-keeps)

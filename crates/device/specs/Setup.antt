@@ -25,8 +25,8 @@ abbrev pub reported : Configured → Report
 reported c = record { number = numberOf (c .answer); device = c .device }
 
 -- "Links 1 to 4 .., vendor 0 to 2,097,151, version text 0 to 32 octets without a zero, hardware address of 8 octets"
-unfoldable pub isSetup : ℕ → ℕ → List ℕ → List ℕ → Bool
-isSetup links vendor text address =
+unfoldable pub isGoodSetup : ℕ → ℕ → List ℕ → List ℕ → Bool
+isGoodSetup links vendor text address =
     leb 1 links && (leb links maxLinks && (leb vendor maxVendor && (isText maxText text && eqb (length address) addressSize)))
 
 abbrev pub settingsFrom : ℕ → ℕ → List ℕ → List ℕ → Settings
@@ -39,4 +39,4 @@ refusal = record { number = 14; device = fresh (settingsFrom 1 0 [] (replicate a
 -- "anything else is 14"
 unfoldable pub setupFor : ℕ → ℕ → List ℕ → List ℕ → Report
 setupFor links vendor text address =
-    cond (isSetup links vendor text address) (record { number = 0; device = fresh (settingsFrom links vendor text address) }) refusal
+    cond (isGoodSetup links vendor text address) (record { number = 0; device = fresh (settingsFrom links vendor text address) }) refusal

@@ -19,11 +19,11 @@ pub struct Configured {
     pub device: Device,
 }
 
-fn address_of(octets: &[u8]) -> [u8; Device::ADDRESS]
+fn address_of(octets: &[u8]) -> [u8; Device::ADDRESS_SIZE]
     requires { ⌜ length (now octets) ≡ addressSize ⌝ }
     ensures { λ r. ⌜ r ≡ now (octets .entry) ⌝ }
 {
-    let mut address = [0u8; Device::ADDRESS];
+    let mut address = [0u8; Device::ADDRESS_SIZE];
     write_octets(&mut address, 0, octets);
     address
 }
@@ -41,7 +41,7 @@ fn refuse() -> Configured
                 octets: [0; Device::MAX_TEXT],
                 len: 0,
             },
-            address: [0; Device::ADDRESS],
+            address: [0; Device::ADDRESS_SIZE],
         }),
     }
 }
@@ -52,7 +52,7 @@ pub fn setup(links: usize, vendor: u32, text: &[u8], address: &[u8]) -> Configur
     if Device::MAX_TEXT < text.len() {
         return refuse();
     }
-    if address.len() != Device::ADDRESS {
+    if address.len() != Device::ADDRESS_SIZE {
         return refuse();
     }
     let settings = Settings {

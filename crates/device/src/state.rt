@@ -34,7 +34,7 @@ pub struct Settings {
     pub links: usize,
     pub vendor: u32,
     pub text: Text,
-    pub address: [u8; Device::ADDRESS],
+    pub address: [u8; Device::ADDRESS_SIZE],
 }
 
 pub struct Device {
@@ -107,7 +107,7 @@ impl Device {
     // The most octets of the version text.
     pub const MAX_TEXT: usize = 32;
     // The octets of the hardware address.
-    pub const ADDRESS: usize = 8;
+    pub const ADDRESS_SIZE: usize = 8;
     // The most octets of a reply body.
     pub const MAX_REPLY: usize = 61;
     // The least output space of a receiving call: any reply's frame fits.

@@ -10,7 +10,7 @@ use Rattle.property.specs.Number.{numbers, within}
 use Rattle.device.specs.State.{defaults, fresh}
 use Rattle.device.specs.Text.{goodText, isText}
 use Rattle.device.specs.Ports.{portsIn, holds, distinct}
-use Rattle.device.specs.Setup.{isSetup, refusal, setupFor}
+use Rattle.device.specs.Setup.{isGoodSetup, refusal, setupFor}
 use Rattle.device.specs.View.{powerAfter}
 use Rattle.request.specs.Verdict.{commandOf, byRow, byProperty, byCommand, verdict}
 use Rattle.method.specs.Perform.{getWith, perform}
@@ -25,7 +25,7 @@ use Rattle.engine.specs.Marked.{freshBox, marked}
 
 pub marked-bodies : map (λ l. repliesTo freshBox (l .bodies)) marked ≡ map (λ l. l .replies) marked
 unfolding before le leOctets pad packed packedIn joined numberIn packedAt rows lookupIn lookup allows numbers within
-    goodText isText portsIn holds distinct defaults fresh isSetup refusal setupFor powerAfter commandOf byRow byProperty byCommand verdict
+    goodText isText portsIn holds distinct defaults fresh isGoodSetup refusal setupFor powerAfter commandOf byRow byProperty byCommand verdict
     getWith valueIn conflicts numberTo setNumber powerTo setPower setName setPorts setKind insertPort without removePort perform
     fixedValue numberValue valueOf statusReply replyCommand content successReply replying concluded reached judgedBy judged statusDecision decisionOf
     decide linkOf isSetUp affect settled engine freshBox repliesTo marked
@@ -33,7 +33,7 @@ marked-bodies = refl
 
 -- the shortest reply: 82 02 5C on a fresh box gives 82 06 5C
 pub three-octets : repliesTo freshBox ((0x82 ∷ 0x02 ∷ 0x5C ∷ []) ∷ []) ≡ (0x82 ∷ 0x06 ∷ 0x5C ∷ []) ∷ []
-unfolding before pad packed packedIn joined numberIn packedAt rows lookupIn lookup allows numbers goodText isText defaults fresh isSetup
+unfolding before pad packed packedIn joined numberIn packedAt rows lookupIn lookup allows numbers goodText isText defaults fresh isGoodSetup
     refusal setupFor powerAfter commandOf byRow byProperty byCommand verdict getWith perform valueOf replyCommand content successReply replying
     concluded reached judgedBy judged decisionOf decide linkOf isSetUp affect settled engine freshBox repliesTo
 three-octets = refl

@@ -5,7 +5,7 @@ use mathlib.Core.List.{List}
 use Prim.Native.Nat.{ℕ, _/_}
 use Rattle.octets.specs.Body.{headerOf}
 use Rattle.octets.proofs.LawsTests.{by-test, chosen}
-use Rattle.property.specs.Commands.{headerFlag}
+use Rattle.property.specs.Commands.{spinelHeader}
 use Rattle.device.specs.declared.state.Device.{Device}
 use Rattle.device.specs.View.{viewOf}
 use Rattle.reply.specs.Reply.{statusReply}
@@ -13,7 +13,7 @@ use Rattle.command.specs.Effects.{isReset}
 use Rattle.command.proofs.LawsDecisions.{decide-header}
 use Rattle.engine.specs.Engine.{linkOf, isSetUp, settled, engine}
 
-pub reply-header : (d : Device) (b : List ℕ) → headerOf (engine d b .reply) ≡ cond (isSetUp (d .settings) b && isReset b) headerFlag (headerOf b)
+pub reply-header : (d : Device) (b : List ℕ) → headerOf (engine d b .reply) ≡ cond (isSetUp (d .settings) b && isReset b) spinelHeader (headerOf b)
 unfolding engine settled statusReply
 reply-header d b = by-test (isSetUp (d .settings) b) (λ e. rw e (decide-header (viewOf (linkOf b) d) b)) (λ e. rw e)
 

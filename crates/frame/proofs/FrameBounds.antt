@@ -6,7 +6,7 @@ use native.Mathlib.Omega.{arith}
 use lib.ListN.{length, length-append}
 use Rattle.octets.proofs.LawsTests.{by-test}
 use Rattle.frame.specs.Kind.{isFlag, isEscape, isSkipped}
-use Rattle.frame.specs.Frame.{sent, stuffed, checked, frame}
+use Rattle.frame.specs.Frame.{sent, stuffed, withCheck, frame}
 use Rattle.frame.proofs.LawsFrame.{checked-length}
 
 sent-bounds : (b : ℕ) → (1 ≤ length (sent b)) × (length (sent b) ≤ 2)
@@ -24,5 +24,5 @@ stuffed-bounds (x ∷ xs) =
 pub frame-bounds : (body : List ℕ) → (length body + 4 ≤ length (frame body)) × (length (frame body) ≤ 2 * length body + 6)
 unfolding frame
 frame-bounds body =
-    let stuff = stuffed-bounds (checked body) in
-    omega (arith, length-append (stuffed (checked body)) (0x7e ∷ []), checked-length body)
+    let stuff = stuffed-bounds (withCheck body) in
+    omega (arith, length-append (stuffed (withCheck body)) (0x7e ∷ []), checked-length body)

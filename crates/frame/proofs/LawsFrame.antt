@@ -19,7 +19,7 @@ use Rattle.frame.specs.declared.kind.OctetKind.{OctetKind}
 use Rattle.frame.specs.declared.kind.OctetKind.the-variants.{Flag, Escape, Skipped, Plain}
 use Rattle.frame.specs.Kind.{kindOf}
 use Rattle.frame.specs.Fcs.{fcs}
-use Rattle.frame.specs.Frame.{sent, stuffed, checked, frame, written, writing}
+use Rattle.frame.specs.Frame.{sent, stuffed, withCheck, frame, written, writing}
 use Rattle.frame.proofs.kind.OctetKind.{the-type as kind-type}
 use Rattle.frame.proofs.LawsKinds.{Tests, by-octet, flags, escapes, skips, kind-tests}
 
@@ -54,15 +54,15 @@ pub stuffed-done : (xs : List ℕ) (i : ℕ) → length xs ≤ i → stuffed (dr
 unfolding stuffed
 stuffed-done xs i h = ap stuffed (drop-of-length-le xs h)
 
-pub checked-length : (body : List ℕ) → length (checked body) ≡ length body + 2
-unfolding checked
+pub checked-length : (body : List ℕ) → length (withCheck body) ≡ length body + 2
+unfolding withCheck
 checked-length body = length-append body _ ∙ ap (λ n. length body + n) (length-le 2 _)
 
 -- ---- a frame in the order in which it is written
 
 module _ (body : List ℕ) {check : List ℕ} (e : check ≡ leOctets 2 (fcs body)) where
   pub frame-parts : frame body ≡ (0x7e ∷ []) ++ (stuffed body ++ (stuffed check ++ (0x7e ∷ [])))
-  unfolding frame checked
+  unfolding frame withCheck
   frame-parts = rw (stuffed-append, append-assoc, e)
 
   pub frame-length : length (frame body) ≡ length (stuffed body) + (length (stuffed check) + 2)
@@ -89,7 +89,7 @@ stuffed-octets (x ∷ xs) o zero = sent-octet x (octets-front (sent x) (stuffed 
 stuffed-octets (x ∷ xs) o (suc k) = stuffed-octets xs (octets-rest (sent x) (stuffed xs) o) k
 
 pub unframed-octets : (body : List ℕ) → Octets (frame body) → Octets body
-unfolding frame checked
+unfolding frame withCheck
 unframed-octets body o =
     octets-front body (leOctets 2 (fcs body))
-    (stuffed-octets (checked body) (octets-front (stuffed (checked body)) (0x7e ∷ []) (λ k. o (suc k))))
+    (stuffed-octets (withCheck body) (octets-front (stuffed (withCheck body)) (0x7e ∷ []) (λ k. o (suc k))))

@@ -17,11 +17,11 @@ unfoldable pub stuffed : List ℕ → List ℕ
 stuffed xs = each sent xs
 
 -- a body and its check, "low octet first"
-unfoldable pub checked : List ℕ → List ℕ
-checked body = body ++ leOctets 2 (fcs body)
+unfoldable pub withCheck : List ℕ → List ℕ
+withCheck body = body ++ leOctets 2 (fcs body)
 
 unfoldable pub frame : List ℕ → List ℕ
-frame body = 0x7e ∷ stuffed (checked body) ++ (0x7e ∷ [])
+frame body = 0x7e ∷ stuffed (withCheck body) ++ (0x7e ∷ [])
 
 -- what the writer gives: how many octets it wrote, and the whole output
 pub record Written : Type 0 where

@@ -18,7 +18,7 @@ use Rattle.hdlc.specs.Reader.{fateNumber, maxGathered, assembling, run}
 use Rattle.hdlc.specs.Rules.{Rules}
 use Rattle.hdlc.specs.Wire.{gathered, cutEscape, pieceFate, bodyIn, call}
 use Rattle.hdlc.specs.States.{over, openPiece, closedForm}
-use Rattle.hdlc.proofs.LawsFates.{judged-checked}
+use Rattle.hdlc.proofs.LawsFates.{frame-fate-checked}
 use Rattle.hdlc.proofs.LawsStates.{over-few}
 use Rattle.hdlc.proofs.LawsCalls.{call-fate}
 use Rattle.hdlc.proofs.ClosedForm.{closed-form}
@@ -35,7 +35,7 @@ piece-checked p a n =
     (by-test (eqb (length g) 0) (λ v. simp v (λ e. impossible cc))
     (λ v. simp v
     (λ e.
-    let j = judged-checked g n e in
+    let j = frame-fate-checked g n e in
     rw (List·getD-append g _ 0 0 (omega arith)) (omega arith, omega (arith, ltb-false), j .2)))))))
 
 pub checked-body : (r : Reader) (a xs : List ℕ) (n : ℕ) → Rules r → maxGathered ≤ length a → run (assembling r a) xs .fate ≡ Checked n

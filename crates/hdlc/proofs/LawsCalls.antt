@@ -16,7 +16,7 @@ use Rattle.hdlc.specs.declared.reader.Fate.the-variants.{Unfinished}
 use Rattle.hdlc.specs.Reader.{decided, frameFate, maxGathered, fresh, Assembling, assembling, run}
 use Rattle.hdlc.specs.Wire.{kept, gathered, cutEscape, pieceFate, ended, grown, finished, unfinished, fated, fatesOf, Call, pieceFateAt, call, callReads}
 use Rattle.hdlc.specs.States.{readerAfter, over, holding, closedForm}
-use Rattle.hdlc.proofs.LawsFates.{told-judged}
+use Rattle.hdlc.proofs.LawsFates.{fated-frame}
 use Rattle.hdlc.proofs.LawsStates.{over-few, over-length, decides-flag}
 use Rattle.hdlc.proofs.ClosedForm.{call-closed}
 
@@ -68,7 +68,7 @@ told-over p a =
     (λ u. simp u
     (by-test (eqb (length (gathered p)) 0) (λ v. simp v)
     (λ v. simp v
-    (ap (fated (frameFate (gathered p))) (over-few (gathered p) a (ltb-false _ _ t)) ∙ told-judged (gathered p) _))))))
+    (ap (fated (frameFate (gathered p))) (over-few (gathered p) a (ltb-false _ _ t)) ∙ fated-frame (gathered p) _))))))
 
 told-call : (p a xs : List ℕ) → fated (call p xs .fate) (over (gathered (call p xs .state)) a) ≡ fated (call p xs .fate) (gathered (call p xs .state))
 unfolding fated

@@ -22,9 +22,9 @@ headed-gathered g long =
     (length-take-le (length g - 2) g (omega arith))
 
 -- a checked body: its length and its header
-pub judged-checked : (g : List ℕ) (n : ℕ) → frameFate g ≡ Checked n → (4 ≤ length g) × (n ≡ length g - 2) × (getD g 0 0 / 64 ≡ 2)
+pub frame-fate-checked : (g : List ℕ) (n : ℕ) → frameFate g ≡ Checked n → (4 ≤ length g) × (n ≡ length g - 2) × (getD g 0 0 / 64 ≡ 2)
 unfolding frameFate
-judged-checked g n =
+frame-fate-checked g n =
     by-test (ltb (length g) 4) (λ t. simp t (λ e. impossible cc))
     (λ t.
     let long = ltb-false _ _ t in
@@ -42,9 +42,9 @@ pub headed-decided : (body : List ℕ) → decided (headed body) ≡ true
 unfolding headed
 headed-decided body = by-test (eqb (getD body 0 0 / 64) 2) (λ t. simp t) (λ t. simp t)
 
-pub judged-decided : (g : List ℕ) → decided (frameFate g) ≡ true
+pub frame-fate-decided : (g : List ℕ) → decided (frameFate g) ≡ true
 unfolding frameFate
-judged-decided g =
+frame-fate-decided g =
     by-test (ltb (length g) 4) (λ t. simp t)
     (λ t. simp t (by-test (eqb (checkOf g) (fcs (bodyOf g))) (λ u. simp u (headed-decided (bodyOf g))) (λ u. simp u)))
 
@@ -64,8 +64,8 @@ front g xs =
     ap (fated (headed body)) (append-assoc body rest xs) ∙ told-headed body (rest ++ xs) ∙ sym (told-headed body rest) in
     subst (λ l. fated (headed body) (l ++ xs) ≡ fated (headed body) l) (take-append-drop (length g - 2) g) same
 
-pub told-judged : (g xs : List ℕ) → fated (frameFate g) (g ++ xs) ≡ fated (frameFate g) g
+pub fated-frame : (g xs : List ℕ) → fated (frameFate g) (g ++ xs) ≡ fated (frameFate g) g
 unfolding fated frameFate
-told-judged g xs =
+fated-frame g xs =
     by-test (ltb (length g) 4) (λ t. simp t)
     (λ t. simp t (by-test (eqb (checkOf g) (fcs (bodyOf g))) (λ u. simp u (front g xs)) (λ u. simp u)))

@@ -16,7 +16,7 @@ use Rattle.hdlc.specs.declared.reader.Fate.the-variants.{Unfinished, Cut
 use Rattle.hdlc.specs.Reader.{decided, frameFate, maxGathered, gathering, overlong, fresh, assembling, gather, afterContent, afterOctet, flagFate, fateAt}
 use Rattle.hdlc.specs.Wire.{kept, meant, pends, gathered, cutEscape, pieceFate, grown, pieceFateAt}
 use Rattle.hdlc.specs.States.{readerAfter, over, holding}
-use Rattle.hdlc.proofs.LawsFates.{judged-decided}
+use Rattle.hdlc.proofs.LawsFates.{frame-fate-decided}
 use Rattle.hdlc.proofs.LawsPieces.{Adds, gathered-append, skipped-adds, content-adds}
 
 -- ---- gathered octets over a buffer
@@ -146,7 +146,7 @@ undecided-empty p =
     (by-test (cutEscape p) (λ u. simp u (λ e. absurd (true≢false e)))
     (λ u. simp u
     (by-test (eqb (length (gathered p)) 0) (λ v. simp v (λ e. empty (gathered p) (eqb-true _ _ v)))
-    (λ v. simp v (λ e. absurd (true≢false (sym (judged-decided (gathered p)) ∙ e))))))))
+    (λ v. simp v (λ e. absurd (true≢false (sym (frame-fate-decided (gathered p)) ∙ e))))))))
   where
     empty : (g : List ℕ) → length g ≡ 0 → g ≡ []
     empty [] e = refl

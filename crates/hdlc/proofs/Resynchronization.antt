@@ -14,7 +14,7 @@ use Rattle.octets.specs.LittleEndian.{leOctets}
 use Rattle.octets.proofs.LawsTests.{by-test}
 use Rattle.frame.specs.Fcs.{fcs}
 use Rattle.frame.specs.Kind.{isFlag}
-use Rattle.frame.specs.Frame.{checked, frame}
+use Rattle.frame.specs.Frame.{withCheck, frame}
 use Rattle.hdlc.specs.declared.reader.Reader.{Reader}
 use Rattle.hdlc.specs.Reader.{decided, headed, maxGathered, fresh, Assembling, assembling, afterOctet, flagFate, fateAt, Outcome, outcome, later, run}
 use Rattle.hdlc.specs.Wire.{Fated, fated}
@@ -25,7 +25,7 @@ use Rattle.hdlc.proofs.RoundTrip.{round-trip}
 -- what 7E and a body's frame give
 pub record Resynchronized (r : Reader) (a body : List ℕ) : Type 0 where
   pub tells : callsTell (assembling r a) (offered (assembling r a) (0x7e ∷ frame body)) ≡ fated (flagFate (assembling r a)) a ++ fated (headed body) body
-  pub leaves : callsLeave (assembling r a) (offered (assembling r a) (0x7e ∷ frame body)) ≡ assembling fresh (checked body ++ drop (length body + 2) a)
+  pub leaves : callsLeave (assembling r a) (offered (assembling r a) (0x7e ∷ frame body)) ≡ assembling fresh (withCheck body ++ drop (length body + 2) a)
 
 -- ---- calls by their outcomes
 
@@ -59,10 +59,10 @@ told-as e c = record { tells = c .tells ∙ e; leaves = c .leaves }
 module _ (r : Reader) (a body : List ℕ) (room : maxGathered ≤ length a) (size : Body body) (octets : Octets body) where
   -- the frame as a fresh reader reads it
   read-frame : Outcome
-  read-frame = outcome (headed body) (length (frame body)) fresh (checked body ++ drop (length body + 2) a)
+  read-frame = outcome (headed body) (length (frame body)) fresh (withCheck body ++ drop (length body + 2) a)
 
-  told-frame : fated (headed body) (checked body ++ drop (length body + 2) a) ≡ fated (headed body) body
-  unfolding checked
+  told-frame : fated (headed body) (withCheck body ++ drop (length body + 2) a) ≡ fated (headed body) body
+  unfolding withCheck
   told-frame = ap (fated (headed body)) (append-assoc body (leOctets 2 (fcs body)) (drop (length body + 2) a)) ∙ told-headed body _
 
   -- what was open has a fate: the flag ends a call

@@ -15,7 +15,7 @@ use Rattle.octets.proofs.LawsLittleEndian.{length-le}
 use Rattle.octets.proofs.LittleEndianRoundTrip.{number-back}
 use Rattle.frame.specs.Fcs.{fcs}
 use Rattle.frame.specs.Kind.{isFlag}
-use Rattle.frame.specs.Frame.{stuffed, checked, frame}
+use Rattle.frame.specs.Frame.{stuffed, withCheck, frame}
 use Rattle.frame.proofs.LawsFcs.{fcs-bound}
 use Rattle.frame.proofs.LawsFrame.{checked-length}
 use Rattle.hdlc.specs.Reader.{later, bodyOf, checkOf, frameFate, headed, maxGathered, fresh, assembling, outcome, run}
@@ -33,65 +33,65 @@ unfolding call pieceFateAt pieceFate grown isFlag gathered cutEscape kept
 first-flag xs = refl
 
 module _ (body : List ℕ) (size : Body body) (octets : Octets body) where
-  checked-body : bodyOf (checked body) ≡ body
-  unfolding bodyOf checked
-  checked-body = take-at body (leOctets 2 (fcs body)) (length (checked body) - 2) (omega (arith, checked-length body))
+  checked-body : bodyOf (withCheck body) ≡ body
+  unfolding bodyOf withCheck
+  checked-body = take-at body (leOctets 2 (fcs body)) (length (withCheck body) - 2) (omega (arith, checked-length body))
 
-  checked-check : checkOf (checked body) ≡ fcs body
-  unfolding checkOf checked leAt
+  checked-check : checkOf (withCheck body) ≡ fcs body
+  unfolding checkOf withCheck leAt
   checked-check =
-      ap (λ l. le (take 2 l)) (drop-at body (leOctets 2 (fcs body)) (length (checked body) - 2) (omega (arith, checked-length body)))
+      ap (λ l. le (take 2 l)) (drop-at body (leOctets 2 (fcs body)) (length (withCheck body) - 2) (omega (arith, checked-length body)))
       ∙ ap le (take-all 2 (leOctets 2 (fcs body)) (omega (arith, length-le 2 (fcs body))))
       ∙ number-back 2 (fcs body) (fcs-bound body octets)
 
-  checked-judged : frameFate (checked body) ≡ headed body
+  checked-fate : frameFate (withCheck body) ≡ headed body
   unfolding frameFate
-  checked-judged =
+  checked-fate =
       simp (
-        le-ltb (length (checked body)) 4 (omega (arith, checked-length body, size .0)),
-        eq-eqb (checkOf (checked body)) (fcs (bodyOf (checked body))) (checked-check ∙ ap fcs (sym checked-body)),
+        le-ltb (length (withCheck body)) 4 (omega (arith, checked-length body, size .0)),
+        eq-eqb (checkOf (withCheck body)) (fcs (bodyOf (withCheck body))) (checked-check ∙ ap fcs (sym checked-body)),
       )
       (ap headed checked-body)
 
-  frame-piece : pieceFate (stuffed (checked body)) ≡ headed body
+  frame-piece : pieceFate (stuffed (withCheck body)) ≡ headed body
   unfolding pieceFate
   frame-piece =
-      let s = stuffed-gives (checked body) in
+      let s = stuffed-gives (withCheck body) in
       simp (
         s .0,
         s .1,
-        le-ltb maxGathered (length (checked body)) (omega (arith, checked-length body, size .1)),
-        ne-eqb (length (checked body)) 0 (λ e. omega (arith, checked-length body)),
+        le-ltb maxGathered (length (withCheck body)) (omega (arith, checked-length body, size .1)),
+        ne-eqb (length (withCheck body)) 0 (λ e. omega (arith, checked-length body)),
       )
-      checked-judged
+      checked-fate
 
-  last-flag : call (stuffed (checked body)) (0x7e ∷ []) ≡ record { fate = headed body; read = 1; state = stuffed (checked body) }
+  last-flag : call (stuffed (withCheck body)) (0x7e ∷ []) ≡ record { fate = headed body; read = 1; state = stuffed (withCheck body) }
   unfolding call pieceFateAt isFlag
   last-flag = rw (frame-piece, headed-decided body)
 
-  frame-call : call [] (frame body) ≡ record { fate = headed body; read = length (frame body); state = stuffed (checked body) }
+  frame-call : call [] (frame body) ≡ record { fate = headed body; read = length (frame body); state = stuffed (withCheck body) }
   unfolding frame
   frame-call =
-      let q = stuffed (checked body) in
+      let q = stuffed (withCheck body) in
       let all : 1 + (length q + 1) ≡ suc (length (q ++ (0x7e ∷ []))) = omega (arith, length-append q (0x7e ∷ [])) in
       first-flag (q ++ (0x7e ∷ []))
-      ∙ ap (later 1) (stuffed-passed (checked body) [] (0x7e ∷ []) ∙ ap (later (length q)) last-flag)
+      ∙ ap (later 1) (stuffed-passed (withCheck body) [] (0x7e ∷ []) ∙ ap (later (length q)) last-flag)
       ∙ (λ i. record { fate = headed body; read = all i; state = q })
 
-  filled : (a : List ℕ) → over (gathered (stuffed (checked body))) a ≡ checked body ++ drop (length body + 2) a
+  filled : (a : List ℕ) → over (gathered (stuffed (withCheck body))) a ≡ withCheck body ++ drop (length body + 2) a
   filled a =
-      ap (λ g. over g a) (stuffed-gives (checked body) .0)
-      ∙ over-few (checked body) a (omega (arith, checked-length body, size .1))
-      ∙ ap (λ n. checked body ++ drop n a) (checked-length body)
+      ap (λ g. over g a) (stuffed-gives (withCheck body) .0)
+      ∙ over-few (withCheck body) a (omega (arith, checked-length body, size .1))
+      ∙ ap (λ n. withCheck body ++ drop n a) (checked-length body)
 
   closed-frame : (a : List ℕ)
-      → closedForm (record { fate = headed body; read = length (frame body); state = stuffed (checked body) }) a
-      ≡ outcome (headed body) (length (frame body)) fresh (checked body ++ drop (length body + 2) a)
+      → closedForm (record { fate = headed body; read = length (frame body); state = stuffed (withCheck body) }) a
+      ≡ outcome (headed body) (length (frame body)) fresh (withCheck body ++ drop (length body + 2) a)
   unfolding closedForm
   closed-frame a = rw (headed-decided body, filled a)
 
   pub round-trip : (a : List ℕ) → maxGathered ≤ length a
-      → run (assembling fresh a) (frame body) ≡ outcome (headed body) (length (frame body)) fresh (checked body ++ drop (length body + 2) a)
+      → run (assembling fresh a) (frame body) ≡ outcome (headed body) (length (frame body)) fresh (withCheck body ++ drop (length body + 2) a)
   unfolding holding readerAfter over gathered cutEscape kept
   round-trip a room = call-closed (frame body) [] a room ∙ ap (λ c. closedForm c a) frame-call ∙ closed-frame a
 
@@ -102,8 +102,8 @@ module _ (body : List ℕ) (size : Body body) (octets : Octets body) where
   frame-reads = rw (frame-call, take-length)
 
   pub frame-told : fatesOf (finished [] (frame body)) ≡ fated (headed body) body
-  unfolding checked
-  frame-told = (rw (frame-reads, frame-call, stuffed-gives (checked body) .0) at (reads (frame body) [] .tells)) ∙ told-headed body _
+  unfolding withCheck
+  frame-told = (rw (frame-reads, frame-call, stuffed-gives (withCheck body) .0) at (reads (frame body) [] .tells)) ∙ told-headed body _
 
   pub frame-leaves : unfinished [] (frame body) ≡ []
   frame-leaves = rw (frame-reads, frame-call, headed-decided body) at (reads (frame body) [] .leaves)

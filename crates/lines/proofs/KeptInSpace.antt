@@ -7,13 +7,13 @@ use borrow.Author.Tests.{ltb-true}
 use lib.Dec.{ltb, eqb}
 use lib.ListN.{length, length-set}
 use Rattle.octets.proofs.LawsTests.{by-test, chosen}
-use Rattle.lines.specs.declared.reader.Place.{Place}
-use Rattle.lines.specs.declared.reader.Place.the-variants.{Start, Half, Octet, Space, Wrong}
+use Rattle.lines.specs.declared.reader.Stage.{Stage}
+use Rattle.lines.specs.declared.reader.Stage.the-variants.{Start, Half, Octet, Space, Wrong}
 use Rattle.lines.specs.declared.reader.LineReader.{LineReader}
 use Rattle.lines.specs.declared.reader.HexLine.{HexLine}
 use Rattle.lines.specs.declared.reader.HexLine.the-variants.{Octets, More, NoOctets}
 use Rattle.lines.specs.Spelling.{space}
-use Rattle.lines.specs.Reader.{digitOf, fresh, at, Keeping, keeping, withOctet, first, second, stepFrom, step, reading, answer, finishedAt, finished, readLine}
+use Rattle.lines.specs.Reader.{digitOf, fresh, at, Keeping, keeping, withOctet, first, second, stepFrom, step, reading, goodLine, answerAt, answerOf, readLine}
 
 abbrev pub InSpace : Keeping → Type 0
 InSpace h = h .reader .count ≤ length (h .out)
@@ -23,7 +23,7 @@ record Goes (h g : Keeping) : Type 0 where
   size : length (g .out) ≡ length (h .out)
   inside : InSpace h → InSpace g
 
-moved : (h : Keeping) (p : Place) → Goes h (keeping (at (h .reader) p) (h .out))
+moved : (h : Keeping) (p : Stage) → Goes h (keeping (at (h .reader) p) (h .out))
 moved h p = record { size = refl; inside = λ i. i }
 
 kept-goes : (h : Keeping) (x : ℕ) → Goes h (withOctet h x)
@@ -39,7 +39,7 @@ first-goes : (h : Keeping) (c : ℕ) → Goes h (keeping (first (h .reader) c) (
 unfolding first
 first-goes h c = chosen (λ r. Goes h (keeping r (h .out))) (ltb (digitOf c) 16) (λ t. moved h (Half (digitOf c))) (λ t. moved h Wrong)
 
-goes : (p : Place) (h : Keeping) (c : ℕ) → Goes h (stepFrom p h c)
+goes : (p : Stage) (h : Keeping) (c : ℕ) → Goes h (stepFrom p h c)
 unfolding stepFrom second
 goes Start h c = first-goes h c
 goes (Half v) h c = chosen (Goes h) (ltb (digitOf c) 16) (λ t. kept-goes h _) (λ t. moved h Wrong)
@@ -50,12 +50,12 @@ goes Wrong h c = record { size = refl; inside = λ i. i }
 pub same-size : (text : List ℕ) (h : Keeping) → length (reading h text .out) ≡ length (h .out)
 unfolding reading
 same-size [] h = refl
-same-size (c ∷ text) h = same-size text (step h c) ∙ goes (h .reader .place) h c .size
+same-size (c ∷ text) h = same-size text (step h c) ∙ goes (h .reader .stage) h c .size
 
 pub kept-in-space : (text : List ℕ) (h : Keeping) → InSpace h → InSpace (reading h text)
 unfolding reading
 kept-in-space [] h i = i
-kept-in-space (c ∷ text) h i = kept-in-space text (step h c) (goes (h .reader .place) h c .inside i)
+kept-in-space (c ∷ text) h i = kept-in-space text (step h c) (goes (h .reader .stage) h c .inside i)
 
 -- how many an answer tells to be kept
 abbrev pub countOf : HexLine → ℕ
@@ -63,20 +63,20 @@ countOf (Octets n) = n
 countOf (More n) = n
 countOf NoOctets = 0
 
-answered : (r : LineReader) → countOf (answer r) ≡ r .count
-unfolding answer
+answered : (r : LineReader) → countOf (goodLine r) ≡ r .count
+unfolding goodLine
 answered r = by-test (r .more) (λ t. simp t) (λ t. simp t)
 
-counted : (p : Place) (r : LineReader) → countOf (finishedAt p r) ≤ r .count
-unfolding finishedAt
+counted : (p : Stage) (r : LineReader) → countOf (answerAt p r) ≤ r .count
+unfolding answerAt
 counted Start r = omega (arith, answered r)
 counted (Half v) r = omega arith
 counted Octet r = omega (arith, answered r)
 counted Space r = omega arith
 counted Wrong r = omega arith
 
-pub finished-in-space : (h : Keeping) → InSpace h → countOf (finished (h .reader)) ≤ length (h .out)
-finished-in-space h i = omega (arith, counted (h .reader .place) (h .reader))
+pub finished-in-space : (h : Keeping) → InSpace h → countOf (answerOf (h .reader)) ≤ length (h .out)
+finished-in-space h i = omega (arith, counted (h .reader .stage) (h .reader))
 
 pub line-in-space : (text out : List ℕ) → countOf (readLine text out .answer) ≤ length out
 unfolding readLine

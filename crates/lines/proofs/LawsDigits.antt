@@ -12,18 +12,18 @@ neither : (a : Bool) {b : Bool} → b ≡ false → a && b ≡ false
 neither true e = e
 neither false e = refl
 
-module _ (least most c : ℕ) where
-  inside : least ≤ c → c ≤ most → isBetween least most c ≡ true
+module _ (low high c : ℕ) where
+  inside : low ≤ c → c ≤ high → isBetween low high c ≡ true
   unfolding isBetween
-  inside h k = both (leb least c) (leb c most) (le-leb _ _ h) (le-leb _ _ k)
+  inside h k = both (leb low c) (leb c high) (le-leb _ _ h) (le-leb _ _ k)
 
-  below : c < least → isBetween least most c ≡ false
+  below : c < low → isBetween low high c ≡ false
   unfolding isBetween
   below h = rw (lt-leb _ _ h)
 
-  above : most < c → isBetween least most c ≡ false
+  above : high < c → isBetween low high c ≡ false
   unfolding isBetween
-  above h = neither (leb least c) (lt-leb _ _ h)
+  above h = neither (leb low c) (lt-leb _ _ h)
 
 -- ---- the value of a letter, from 0 up
 

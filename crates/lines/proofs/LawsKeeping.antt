@@ -11,17 +11,17 @@ use lib.Dec.{ltb}
 use lib.ListN.{length, set, length-set}
 use lib.Seq.{sets}
 use Rattle.octets.proofs.LawsTests.{by-test}
-use Rattle.lines.specs.declared.reader.Place.the-variants.{Octet}
+use Rattle.lines.specs.declared.reader.Stage.the-variants.{Octet}
 use Rattle.lines.specs.declared.reader.LineReader.{LineReader}
 use Rattle.lines.specs.Reader.{Keeping, keeping, withOctet}
 
 -- a reader behind an octet
 abbrev pub behind : ℕ → Bool → LineReader
-behind n m = record { place = Octet; count = n; more = m }
+behind n m = record { stage = Octet; count = n; more = m }
 
-pub kept-place : (h : Keeping) (x : ℕ) → withOctet h x .reader .place ≡ Octet
+pub kept-stage : (h : Keeping) (x : ℕ) → withOctet h x .reader .stage ≡ Octet
 unfolding withOctet
-kept-place h x = by-test (ltb (h .reader .count) (length (h .out))) (λ t. simp t) (λ t. simp t)
+kept-stage h x = by-test (ltb (h .reader .count) (length (h .out))) (λ t. simp t) (λ t. simp t)
 
 kept-room : (n : ℕ) (m : Bool) (out : List ℕ) (x : ℕ) → n < length out → withOctet (keeping (behind n m) out) x ≡ keeping (behind (suc n) m) (set out n x)
 unfolding withOctet

@@ -9,8 +9,8 @@ use lib.ListN.{getD}
 use Rattle.octets.specs.Scanning.{allFrom, allBelow}
 use Rattle.octets.proofs.LawsScanning.{all-at}
 use Rattle.octets.proofs.LawsTests.{by-test}
-use Rattle.lines.specs.declared.reader.Place.{Place}
-use Rattle.lines.specs.declared.reader.Place.the-variants.{Start, Half, Octet, Space, Wrong}
+use Rattle.lines.specs.declared.reader.Stage.{Stage}
+use Rattle.lines.specs.declared.reader.Stage.the-variants.{Start, Half, Octet, Space, Wrong}
 use Rattle.lines.specs.declared.reader.LineReader.{LineReader}
 use Rattle.lines.specs.Line.{digits}
 use Rattle.lines.specs.Spelling.{space, capitals, Digit, lower, upper, Two}
@@ -54,7 +54,7 @@ digit c h =
 
 -- ---- an octet's two letters, wherever an octet may start
 
-abbrev pub Open : Place → Type 0
+abbrev pub Open : Stage → Type 0
 Open Start = Unit {0}
 Open (Half v) = ⊥
 Open Octet = Unit {0}
@@ -69,7 +69,7 @@ no-space : {c v : ℕ} → Digit c v → eqb c space ≡ false
 unfolding digitOf isBetween
 no-space {c} d = ne-eqb c space (λ e. let none : digitOf c ≡ 16 = ap digitOf e in omega (arith, digit-less d, digit-value d))
 
-opens : {c v : ℕ} (p : Place) → Open p → (h : Keeping) → Digit c v → stepFrom p h c ≡ keeping (at (h .reader) (Half v)) (h .out)
+opens : {c v : ℕ} (p : Stage) → Open p → (h : Keeping) → Digit c v → stepFrom p h c ≡ keeping (at (h .reader) (Half v)) (h .out)
 unfolding stepFrom
 opens Start o h d = ap (λ r. keeping r (h .out)) (first-digit (h .reader) d)
 opens (Half v) o h d = absurd o
@@ -77,8 +77,8 @@ opens Octet o h d = rw (no-space d, first-digit (h .reader) d)
 opens Space o h d = ap (λ r. keeping r (h .out)) (first-digit (h .reader) d)
 opens Wrong o h d = absurd o
 
--- where an octet is kept, the place before it does not matter
-pub kept-at : (h : Keeping) (p : Place) (x : ℕ) → withOctet (keeping (at (h .reader) p) (h .out)) x ≡ withOctet h x
+-- where an octet is kept, the stage before it does not matter
+pub kept-at : (h : Keeping) (p : Stage) (x : ℕ) → withOctet (keeping (at (h .reader) p) (h .out)) x ≡ withOctet h x
 unfolding withOctet
 kept-at h p x = refl
 
@@ -88,8 +88,8 @@ closes {v = v} h x d less e =
     let whole : x / 16 % 16 * 16 + v ≡ x = omega arith in
     rw (digit-value d, lt-ltb _ _ (digit-less d), whole)
 
-pub two-letters : {a b x : ℕ} (h : Keeping) → Open (h .reader .place) → Two a b x → step (step h a) b ≡ withOctet h x
+pub two-letters : {a b x : ℕ} (h : Keeping) → Open (h .reader .stage) → Two a b x → step (step h a) b ≡ withOctet h x
 unfolding stepFrom
 two-letters {a} {b} {x} h o t =
-    ap (λ g. step g b) (opens (h .reader .place) o h (t .high))
+    ap (λ g. step g b) (opens (h .reader .stage) o h (t .high))
     ∙ closes (keeping (at (h .reader) (Half (x / 16))) (h .out)) x (t .low) (digit-less (t .high)) refl ∙ kept-at h (Half (x / 16)) x

@@ -8,23 +8,23 @@ use native.Mathlib.Omega.{arith}
 use native.Mathlib.Nat.{zero-add}
 use lib.ListN.{length, take, drop, getD, take-append-drop, drop-of-length-le}
 use lib.Seq.{sets, sets-eq, length-take-le, drop-cons}
-use Rattle.lines.specs.declared.reader.Place.the-variants.{Space}
+use Rattle.lines.specs.declared.reader.Stage.the-variants.{Space}
 use Rattle.lines.specs.declared.reader.HexLine.the-variants.{Octets, More}
 use Rattle.lines.specs.Spelling.{space, Spells, none, last, joined, spaced}
-use Rattle.lines.specs.Reader.{fresh, at, Keeping, keeping, withOctet, stepFrom, reading, answer, finishedAt, outcome, ended, readLine}
+use Rattle.lines.specs.Reader.{fresh, at, Keeping, keeping, withOctet, stepFrom, reading, goodLine, answerAt, outcome, atEnd, readLine}
 use Rattle.lines.proofs.LawsSpelling.{Open, two-letters, kept-at}
-use Rattle.lines.proofs.LawsKeeping.{behind, kept-place, all-kept, more-told}
+use Rattle.lines.proofs.LawsKeeping.{behind, kept-stage, all-kept, more-told}
 
 -- behind an octet another one may start, directly or behind a space
-kept-open : (h : Keeping) (x : ℕ) → Open (withOctet h x .reader .place)
-kept-open h x = subst Open (sym (kept-place h x)) tt
+kept-open : (h : Keeping) (x : ℕ) → Open (withOctet h x .reader .stage)
+kept-open h x = subst Open (sym (kept-stage h x)) tt
 
-over-space : (h : Keeping) (x : ℕ) → stepFrom (withOctet h x .reader .place) (withOctet h x) space ≡ keeping (at (withOctet h x .reader) Space) (withOctet h x .out)
+over-space : (h : Keeping) (x : ℕ) → stepFrom (withOctet h x .reader .stage) (withOctet h x) space ≡ keeping (at (withOctet h x .reader) Space) (withOctet h x .out)
 unfolding stepFrom
-over-space h x = ap (λ p. stepFrom p (withOctet h x) space) (kept-place h x)
+over-space h x = ap (λ p. stepFrom p (withOctet h x) space) (kept-stage h x)
 
 -- the reader keeps what is spelled
-keeps : {text ys : List ℕ} {y : ℕ} → Spells text (y ∷ ys) → (h : Keeping) → Open (h .reader .place) → reading h text ≡ foldl withOctet h (y ∷ ys)
+keeps : {text ys : List ℕ} {y : ℕ} → Spells text (y ∷ ys) → (h : Keeping) → Open (h .reader .stage) → reading h text ≡ foldl withOctet h (y ∷ ys)
 unfolding reading
 keeps (last t) h o = two-letters h o t
 keeps (joined {x = x} {text = text} t s) h o = ap (λ g. reading g text) (two-letters h o t) ∙ keeps s (withOctet h x) (kept-open h x)
@@ -49,9 +49,9 @@ front-kept xs out room =
 
 pub reads-spelled : {text xs : List ℕ} → Spells text xs → (out : List ℕ) → length xs ≤ length out
     → readLine text out ≡ outcome (Octets (length xs)) (xs ++ drop (length xs) out)
-unfolding readLine reading finishedAt answer
+unfolding readLine reading answerAt goodLine
 reads-spelled {xs = []} none out room = refl
-reads-spelled {xs = x ∷ xs} s out room = ap ended (keeps s (keeping fresh out) tt ∙ from-fresh out x xs ∙ front-kept (x ∷ xs) out room)
+reads-spelled {xs = x ∷ xs} s out room = ap atEnd (keeps s (keeping fresh out) tt ∙ from-fresh out x xs ∙ front-kept (x ∷ xs) out room)
 
 -- the octets that fit, and one more at least behind them
 module _ (xs out : List ℕ) (most : length out < length xs) where
@@ -75,6 +75,6 @@ module _ (xs out : List ℕ) (most : length out < length xs) where
 
 pub reads-first : {text xs : List ℕ} → Spells text xs → (out : List ℕ) → length out < length xs
     → readLine text out ≡ outcome (More (length out)) (take (length out) xs)
-unfolding readLine reading finishedAt answer
+unfolding readLine reading answerAt goodLine
 reads-first {xs = []} s out most = absurd (omega arith)
-reads-first {xs = x ∷ xs} s out most = ap ended (keeps s (keeping fresh out) tt ∙ from-fresh out x xs ∙ overflowed (x ∷ xs) out most)
+reads-first {xs = x ∷ xs} s out most = ap atEnd (keeps s (keeping fresh out) tt ∙ from-fresh out x xs ∙ overflowed (x ∷ xs) out most)

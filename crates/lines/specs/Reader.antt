@@ -4,8 +4,8 @@ use mathlib.Core.List.{List, foldl}
 use Prim.Native.Nat.{ℕ, _+_, _-_, _*_, _%_}
 use lib.Dec.{ltb, leb, eqb}
 use lib.ListN.{length, set}
-use Rattle.lines.specs.declared.reader.Place.{Place}
-use Rattle.lines.specs.declared.reader.Place.the-variants.{Start, Half, Octet, Space, Wrong}
+use Rattle.lines.specs.declared.reader.Stage.{Stage}
+use Rattle.lines.specs.declared.reader.Stage.the-variants.{Start, Half, Octet, Space, Wrong}
 use Rattle.lines.specs.declared.reader.LineReader.{LineReader}
 use Rattle.lines.specs.declared.reader.HexLine.{HexLine}
 use Rattle.lines.specs.declared.reader.HexLine.the-variants.{Octets, More, NoOctets}
@@ -18,7 +18,7 @@ abbrev pub noDigit : ℕ
 noDigit = 16
 
 unfoldable pub isBetween : ℕ → ℕ → ℕ → Bool
-isBetween least most c = leb least c && leb c most
+isBetween low high c = leb low c && leb c high
 
 -- 0 to 9, a to f and A to F
 unfoldable pub digitOf : ℕ → ℕ
@@ -30,11 +30,11 @@ digitOf c =
 -- ---- states
 
 abbrev pub fresh : LineReader
-fresh = record { place = Start; count = 0; more = false }
+fresh = record { stage = Start; count = 0; more = false }
 
--- the same reader at another place
-abbrev pub at : LineReader → Place → LineReader
-at r p = record { place = p; count = r .count; more = r .more }
+-- the same reader at another stage of the line
+abbrev pub at : LineReader → Stage → LineReader
+at r p = record { stage = p; count = r .count; more = r .more }
 
 -- a reader with the space that it is lent
 pub record Keeping : Type 0 where
@@ -50,8 +50,8 @@ keeping r out = record { reader = r; out = out }
 unfoldable pub withOctet : Keeping → ℕ → Keeping
 withOctet h x =
     cond (ltb (h .reader .count) (length (h .out)))
-    (keeping (record { place = Octet; count = h .reader .count + 1; more = h .reader .more }) (set (h .out) (h .reader .count) x))
-    (keeping (record { place = Octet; count = h .reader .count; more = true }) (h .out))
+    (keeping (record { stage = Octet; count = h .reader .count + 1; more = h .reader .more }) (set (h .out) (h .reader .count) x))
+    (keeping (record { stage = Octet; count = h .reader .count; more = true }) (h .out))
 
 -- the first digit of an octet, and the second one
 unfoldable pub first : LineReader → ℕ → LineReader
@@ -61,7 +61,7 @@ unfoldable pub second : Keeping → ℕ → ℕ → Keeping
 second h high c = cond (ltb (digitOf c) noDigit) (withOctet h (high % 16 * 16 + digitOf c)) (keeping (at (h .reader) Wrong) (h .out))
 
 -- behind an octet there may be a space; wherever else an octet may start, there must be its first digit
-unfoldable pub stepFrom : Place → Keeping → ℕ → Keeping
+unfoldable pub stepFrom : Stage → Keeping → ℕ → Keeping
 stepFrom Start h c = keeping (first (h .reader) c) (h .out)
 stepFrom (Half high) h c = second h high c
 stepFrom Octet h c = keeping (cond (eqb c space) (at (h .reader) Space) (first (h .reader) c)) (h .out)
@@ -69,7 +69,7 @@ stepFrom Space h c = keeping (first (h .reader) c) (h .out)
 stepFrom Wrong h c = h
 
 abbrev pub step : Keeping → ℕ → Keeping
-step h c = stepFrom (h .reader .place) h c
+step h c = stepFrom (h .reader .stage) h c
 
 -- ---- a line
 
@@ -78,19 +78,19 @@ unfoldable pub reading : Keeping → List ℕ → Keeping
 reading h text = foldl step h text
 
 -- where it is in order: how many octets are kept, and whether there are more
-unfoldable pub answer : LineReader → HexLine
-answer r = cond (r .more) (More (r .count)) (Octets (r .count))
+unfoldable pub goodLine : LineReader → HexLine
+goodLine r = cond (r .more) (More (r .count)) (Octets (r .count))
 
 -- its end: it may end behind an octet, or before its first letter
-unfoldable pub finishedAt : Place → LineReader → HexLine
-finishedAt Start r = answer r
-finishedAt (Half high) r = NoOctets
-finishedAt Octet r = answer r
-finishedAt Space r = NoOctets
-finishedAt Wrong r = NoOctets
+unfoldable pub answerAt : Stage → LineReader → HexLine
+answerAt Start r = goodLine r
+answerAt (Half high) r = NoOctets
+answerAt Octet r = goodLine r
+answerAt Space r = NoOctets
+answerAt Wrong r = NoOctets
 
-abbrev pub finished : LineReader → HexLine
-finished r = finishedAt (r .place) r
+abbrev pub answerOf : LineReader → HexLine
+answerOf r = answerAt (r .stage) r
 
 -- what it comes to, and the lent space after it
 pub record Outcome : Type 0 where
@@ -100,9 +100,9 @@ pub record Outcome : Type 0 where
 abbrev pub outcome : HexLine → List ℕ → Outcome
 outcome a out = record { answer = a; out = out }
 
-abbrev pub ended : Keeping → Outcome
-ended h = outcome (finished (h .reader)) (h .out)
+abbrev pub atEnd : Keeping → Outcome
+atEnd h = outcome (answerOf (h .reader)) (h .out)
 
 -- a whole line, read at once into the lent space
 unfoldable pub readLine : List ℕ → List ℕ → Outcome
-readLine text out = ended (reading (keeping fresh out) text)
+readLine text out = atEnd (reading (keeping fresh out) text)

@@ -5,5 +5,5 @@ mod reader;
 pub use line::write_line;
 pub use reader::HexLine;
 pub use reader::LineReader;
-pub use reader::Place;
+pub use reader::Stage;
 pub use reader::read_line;

@@ -1,10 +1,10 @@
 // The reader of a line of hex. Its state goes in and out by value, so that a line of any length is read in pieces; the octets that it keeps
 // stand in lent space.
 ghost use mathlib.Core.Path.{_≡_};
-ghost use Rattle.lines.specs.Reader.{digitOf, fresh, at, keeping, withOctet, first, second, step, reading, answer, finished, outcome, readLine};
+ghost use Rattle.lines.specs.Reader.{digitOf, fresh, at, keeping, withOctet, first, second, step, reading, goodLine, answerOf, outcome, readLine};
 
-// Where a reader stands in a line.
-pub enum Place {
+// How far a reader has come in a line.
+pub enum Stage {
     // Before its first letter.
     Start,
     // Behind the first digit of an octet, which has this value.
@@ -13,12 +13,12 @@ pub enum Place {
     Octet,
     // Behind the space after an octet.
     Space,
-    // Behind a letter that has no place there. What follows changes nothing.
+    // Behind a letter that has no business there. What follows changes nothing.
     Wrong,
 }
 
 pub struct LineReader {
-    pub place: Place,
+    pub stage: Stage,
     // How many octets are kept, from the front of the lent space.
     pub count: usize,
     // There was no room for all.
@@ -55,18 +55,18 @@ impl LineReader {
         ensures { λ r. ⌜ r ≡ fresh ⌝ }
     {
         LineReader {
-            place: Place::Start,
+            stage: Stage::Start,
             count: 0,
             more: false,
         }
     }
 
-    // The same reader at another place.
-    fn at(self, place: Place) -> LineReader
-        ensures { λ r. ⌜ r ≡ at self place ⌝ }
+    // The same reader at another stage of the line.
+    fn at(self, stage: Stage) -> LineReader
+        ensures { λ r. ⌜ r ≡ at self stage ⌝ }
     {
         LineReader {
-            place,
+            stage,
             count: self.count,
             more: self.more,
         }
@@ -80,13 +80,13 @@ impl LineReader {
         if count < out.len() {
             out[count] = octet;
             return LineReader {
-                place: Place::Octet,
+                stage: Stage::Octet,
                 count: count + 1,
                 more: self.more,
             };
         }
         LineReader {
-            place: Place::Octet,
+            stage: Stage::Octet,
             count,
             more: true,
         }
@@ -98,9 +98,9 @@ impl LineReader {
     {
         let digit = digit_of(letter);
         if digit < NO_DIGIT {
-            return self.at(Place::Half(digit));
+            return self.at(Stage::Half(digit));
         }
-        self.at(Place::Wrong)
+        self.at(Stage::Wrong)
     }
 
     // The second digit of an octet, behind the first one.
@@ -111,25 +111,25 @@ impl LineReader {
         if digit < NO_DIGIT {
             return self.keep(high % 16 * 16 + digit, out);
         }
-        self.at(Place::Wrong)
+        self.at(Stage::Wrong)
     }
 
     // One letter.
     fn step(self, letter: u8, out: &mut [u8]) -> LineReader
         ensures { λ r. ⌜ keeping r (now (out .exit)) ≡ step (keeping self (now (out .entry))) letter ⌝ }
     {
-        let place = self.place;
-        match place {
-            Place::Start => self.first_digit(letter),
-            Place::Half(high) => self.second_digit(high, letter, out),
-            Place::Octet => {
+        let stage = self.stage;
+        match stage {
+            Stage::Start => self.first_digit(letter),
+            Stage::Half(high) => self.second_digit(high, letter, out),
+            Stage::Octet => {
                 if letter == b' ' {
-                    return self.at(Place::Space);
+                    return self.at(Stage::Space);
                 }
                 self.first_digit(letter)
             }
-            Place::Space => self.first_digit(letter),
-            Place::Wrong => self,
+            Stage::Space => self.first_digit(letter),
+            Stage::Wrong => self,
         }
     }
 
@@ -147,8 +147,8 @@ impl LineReader {
     }
 
     // What the octets of a line that is in order come to.
-    fn answer(self) -> HexLine
-        ensures { λ r. ⌜ r ≡ answer self ⌝ }
+    fn good_line(self) -> HexLine
+        ensures { λ r. ⌜ r ≡ goodLine self ⌝ }
     {
         if self.more {
             return HexLine::More(self.count);
@@ -158,15 +158,15 @@ impl LineReader {
 
     // The line has ended.
     pub fn finish(self) -> HexLine
-        ensures { λ r. ⌜ r ≡ finished self ⌝ }
+        ensures { λ r. ⌜ r ≡ answerOf self ⌝ }
     {
-        let place = self.place;
-        match place {
-            Place::Start => self.answer(),
-            Place::Half(_) => HexLine::NoOctets,
-            Place::Octet => self.answer(),
-            Place::Space => HexLine::NoOctets,
-            Place::Wrong => HexLine::NoOctets,
+        let stage = self.stage;
+        match stage {
+            Stage::Start => self.good_line(),
+            Stage::Half(_) => HexLine::NoOctets,
+            Stage::Octet => self.good_line(),
+            Stage::Space => HexLine::NoOctets,
+            Stage::Wrong => HexLine::NoOctets,
         }
     }
 }

@@ -9,7 +9,7 @@ use lib.ListN.{length, replicate, length-replicate}
 use lib.Seq.{take-append-seam}
 use Rattle.octets.specs.Body.{headerOf}
 use Rattle.octets.specs.Octets.{Octets}
-use Rattle.frame.specs.Frame.{checked, frame}
+use Rattle.frame.specs.Frame.{withCheck, frame}
 use Rattle.frame.proofs.LawsFrame.{unframed-octets}
 use Rattle.hdlc.specs.declared.reader.Fate.{Fate}
 use Rattle.hdlc.specs.declared.reader.Fate.the-variants.{Checked}
@@ -45,7 +45,7 @@ module _ (xs : List ℕ) {f : Fate} {read : ℕ} {r : Reader} {a : List ℕ} (is
 -- the frame of a reply with the top bits 10 is read back as the reply
 module _ (reply : List ℕ) (size : Bounded reply) (top : headerOf reply / 64 ≡ 2) where
   pub frame-back : Octets (frame reply) → bodyBack (frame reply) ≡ reply
-  unfolding bodyBack checked
+  unfolding bodyBack withCheck
   frame-back o =
       rw (round-trip reply (omega arith) (unframed-octets reply o) (replicate maxGathered 0) cleared-room, headed-checked reply top, append-assoc)
       (take-append-seam reply _)

@@ -31,5 +31,5 @@ abbrev pub valueRemoved : ℕ
 valueRemoved = 8
 
 -- "Header: two bits 10, two bits link, four bits transaction": that of link 0 and transaction 0
-abbrev pub headerFlag : ℕ
-headerFlag = 0x80
+abbrev pub spinelHeader : ℕ
+spinelHeader = 0x80

@@ -29,4 +29,4 @@ pub const VALUE_INSERTED: u8 = 7;
 pub const VALUE_REMOVED: u8 = 8;
 
 // The header of link 0 and transaction 0: the two bits 10 that every Spinel header begins with.
-pub const HEADER_FLAG: u8 = 0x80;
+pub const SPINEL_HEADER: u8 = 0x80;

@@ -9,7 +9,7 @@ use lib.Seq.{take-length}
 use Rattle.octets.specs.Body.{Body, headerOf}
 use Rattle.octets.specs.Octets.{Octets}
 use Rattle.frame.specs.Kind.{isFlag}
-use Rattle.frame.specs.Frame.{stuffed, checked, frame}
+use Rattle.frame.specs.Frame.{stuffed, withCheck, frame}
 use Rattle.hdlc.specs.Wire.{kept, gathered, cutEscape, pieceFate, ended, grown, finished, unfinished, fated, fatesOf}
 use Rattle.hdlc.proofs.LawsFates.{headed-checked}
 use Rattle.hdlc.proofs.LawsPieces.{unfinished-append}
@@ -58,7 +58,7 @@ module _ (b : List ℕ) (size : Body b) (octets : Octets b) (top : headerOf b / 
   noise-then : (xs ys : List ℕ) → checkedIn [] (xs ++ (frame b ++ ys)) ≡ checkedIn [] (xs ++ (0x7e ∷ [])) ++ (b ∷ checkedIn [] ys)
   unfolding frame
   noise-then xs ys =
-      let rest : List ℕ = stuffed (checked b) ++ (0x7e ∷ []) in
+      let rest : List ℕ = stuffed (withCheck b) ++ (0x7e ∷ []) in
       flag-parts xs (rest ++ ys) ∙ ap (λ l. checkedIn [] (xs ++ (0x7e ∷ [])) ++ l) (sym (flag-alone (rest ++ ys)) ∙ frame-then ys)
 
   pub resynchronizes : (s : Setup) (h : History) (xs ys : List ℕ) → laid h ≡ xs ++ (frame b ++ ys)

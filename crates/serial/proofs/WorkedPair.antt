@@ -15,7 +15,7 @@ use Rattle.hdlc.specs.Reader.{bodyOf, checkOf, headed, frameFate, maxGathered}
 use Rattle.hdlc.specs.Wire.{kept, meant, pends, gathered, cutEscape, pieceFate, ended, grown, finished, unfinished, fated, fatesOf, pieceFateAt, call, callReads}
 use Rattle.device.specs.State.{fresh, addressSize}
 use Rattle.device.specs.Text.{goodText, isText}
-use Rattle.device.specs.Setup.{isSetup, setupFor}
+use Rattle.device.specs.Setup.{isGoodSetup, setupFor}
 use Rattle.device.specs.declared.view.Effect.the-variants.{Reset, Powered}
 use Rattle.command.specs.Effects.{isReset, isPower, effectOf}
 use Rattle.engine.specs.Engine.{linkOf, isSetUp}
@@ -84,7 +84,7 @@ expected =
 pub both-merged : (mergedIn two-links 1 noisy ≡ expected) × (mergedIn two-links 1 clean ≡ expected)
 unfolding before le leAt pad isFlag isEscape isSkipped fcsBit fcsBits fcsOctet fcsFrom fcs bodyOf checkOf headed frameFate
     kept meant pends gathered cutEscape pieceFate ended grown finished unfinished fated fatesOf pieceFateAt call callReads
-    goodText isText fresh isSetup setupFor linkOf isSetUp isReset isPower effectOf effectItem itemOf merged
+    goodText isText fresh isGoodSetup setupFor linkOf isSetUp isReset isPower effectOf effectItem itemOf merged
     isRefused readBy laidFrom laid checkedOf checkedIn bodies mergedIn
 both-merged = (refl, refl)
 

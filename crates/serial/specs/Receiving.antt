@@ -11,7 +11,7 @@ use Rattle.hdlc.specs.Rules.{rules as readerRules}
 use Rattle.hdlc.specs.Wire.{bodyIn}
 use Rattle.device.specs.declared.state.Device.{Device}
 use Rattle.device.specs.Rules.{rules}
-use Rattle.engine.specs.Engine.{Response as Answered, engine}
+use Rattle.engine.specs.Engine.{Response, engine}
 use Rattle.serial.specs.declared.receiving.Answer.{Answer}
 use Rattle.serial.specs.declared.receiving.Answer.the-variants.{Read, BadState, SmallAssembly, SmallOutput}
 use Rattle.serial.specs.declared.receiving.Received.{Received}
@@ -54,7 +54,7 @@ abbrev pub refused : Answer → Device → Reader → List ℕ → List ℕ → 
 refused n d r a out = record { answer = n; read = 0; written = 0; device = d; reader = r; assembly = a; output = out }
 
 -- fate 1, "frame answered": the engine's reply is framed at the front of the output, and behind it stands what the output held
-abbrev pub replied : Outcome → Answered → List ℕ → Result
+abbrev pub replied : Outcome → Response → List ℕ → Result
 replied o e out =
     record {
       answer = Read (o .fate);

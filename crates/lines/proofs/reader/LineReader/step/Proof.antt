@@ -1,4 +1,4 @@
--- Each arm has the place by which `stepFrom` goes.
+-- Each arm has the stage by which `stepFrom` goes.
 use mathlib.Core.Path.{_∙_}
 use borrow.Author.Needs.{needs}
 use borrow.Author.Tests.{eq-eqb, ne-eqb}
@@ -17,7 +17,7 @@ returns-2 c = rw (c .first-digit .ensures, c .before .enum-told .given .1)
 
 returns-3 : tie.Need-returns-3
 unfolding stepFrom
-returns-3 c = c .before .before .second-digit .ensures ∙ rw (c .before .before .before .before .before .place .given .1)
+returns-3 c = c .before .before .second-digit .ensures ∙ rw (c .before .before .before .before .before .stage .given .1)
 
 returns-4 : tie.Need-returns-4
 unfolding stepFrom
