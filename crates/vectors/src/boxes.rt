@@ -1,165 +1,163 @@
-// Lines of a box: fresh from setup for each line, it is sent the bodies of the line one after the other, and the reply stands after each.
-// The lines are on standard input, with octets in hex and a comma between bodies; the box is named before a colon.
-use crate::hex::read_hex;
+// Boxes, fresh from setup for each line and sent the bodies of the line one after the other.
+use crate::frames::is_body;
 use crate::show;
+use crate::text::MAX_OCTETS;
+use crate::text::after;
+use crate::text::are_calls;
+use crate::text::before;
+use crate::text::front;
+use crate::text::is_number;
+use crate::text::is_octets;
+use crate::text::number;
+use crate::text::octets;
+use crate::text::piece;
+use crate::text::pieces;
+use crate::text::place;
+use crate::text::same;
+use device::Answer;
 use device::Device;
 use device::setup;
 use engine::Answered;
 use engine::answer;
-use libc::STDIN_FILENO;
-use octets::find_octet;
 
-pub fn run() {
-    let mut input = io::large_buffer();
-    let count = io::read_full(STDIN_FILENO, &mut input);
-    lines(show::front(&input, count));
+// As `boxed`, and setup's answer is told.
+pub fn set_up(shown: &[u8], text: &[u8]) -> bool {
+    if same(before(text, b' '), b"links") {
+        return boxed(shown, after(text, b' '), true);
+    }
+    false
 }
 
-fn lines(text: &[u8]) {
-    let mut rest = text;
-    while 0 < rest.len() {
-        let end = find_octet(rest, 0, b'\n');
-        line(show::front(rest, end));
-        if rest.len() <= end {
-            return;
+pub fn boxed(shown: &[u8], text: &[u8], told: bool) -> bool {
+    if are_calls(after(text, b':')) {
+        if are_settings(before(text, b':')) {
+            show::pair(before(shown, b':'), b":");
+            send(configured(before(text, b':'), told), after(text, b':'));
+            return true;
         }
-        rest = &rest[end + 1..];
+    }
+    false
+}
+
+// Whether a number of links stands alone, or before a vendor, a text and an address.
+fn are_settings(head: &[u8]) -> bool {
+    if is_number(before(head, b','), usize::MAX) {
+        return match pieces(head, b',') {
+            1 => true,
+            4 => are_named(head),
+            _ => false,
+        };
+    }
+    false
+}
+
+fn are_named(head: &[u8]) -> bool {
+    if is_named(head, 1) {
+        if is_named(head, 2) {
+            return is_named(head, 3);
+        }
+    }
+    false
+}
+
+fn is_named(head: &[u8], k: usize) -> bool {
+    let name = before(piece(head, b',', k), b' ');
+    if place(b"links vendor text address", name) == k {
+        if k == 1 {
+            return is_number(field(head, k), 4294967295);
+        }
+        return is_octets(field(head, k));
+    }
+    false
+}
+
+// What stands after the name of a setting.
+fn field(head: &[u8], k: usize) -> &[u8] {
+    after(piece(head, b',', k), b' ')
+}
+
+// The box that setup returns. Where links stand alone, the vendor is 0, the text empty and the address zero.
+fn configured(head: &[u8], told: bool) -> Device {
+    let mut text = [0u8; MAX_OCTETS];
+    let mut address = [0u8; MAX_OCTETS];
+    let t = octets(field(head, 2), &mut text);
+    let mut a = octets(field(head, 3), &mut address);
+    if pieces(head, b',') == 1 {
+        a = Device::ADDRESS_SIZE;
+    }
+    let vendor = (number(field(head, 1)) % 4294967296) as u32;
+    set(
+        number(before(head, b',')),
+        vendor,
+        front(&text, t),
+        front(&address, a),
+        told,
+    )
+}
+
+fn set(links: usize, vendor: u32, text: &[u8], address: &[u8], told: bool) -> Device {
+    let configured = setup(links, vendor, text, address);
+    let answer = configured.answer;
+    tell(answer, told);
+    configured.device
+}
+
+// The answer of setup. A refusal is always told.
+fn tell(answer: Answer, told: bool) {
+    match answer {
+        Answer::Ready => {
+            if told {
+                show::text(b" 0, then");
+            }
+        }
+        Answer::BadSetup => show::text(b" 14, then"),
     }
 }
 
-// A line, by its first letter. A line of any other is a comment.
-fn line(text: &[u8]) {
-    let end = find_octet(text, 0, b':');
-    if text.len() == 0 {
-        return;
-    }
-    let first = text[0];
-    match first {
-        b'1'..=b'4' => numbered((first - b'0') as usize, show::after(text, end)),
-        b's' => sample(show::after(text, end)),
-        b'm' => most(show::after(text, end)),
-        b'l' => long(),
-        _ => {}
-    }
-}
-
-// A box of so many links, with vendor 0, empty text and zero address.
-fn numbered(links: usize, text: &[u8]) {
-    show::text(b"box ");
-    show::number(links);
-    show::letter(b':');
-    bodies(plain(links), text);
-}
-
-fn plain(links: usize) -> Device {
-    setup(links, 0, b"", b"\x00\x00\x00\x00\x00\x00\x00\x00").device
-}
-
-// A box of three links, with settings that are all unlike those.
-fn sample(text: &[u8]) {
-    show::text(b"box 3, vendor 16384, text 31 2e 32, address 01 02 03 04 05 06 07 08:");
-    bodies(
-        setup(3, 16384, b"1.2", b"\x01\x02\x03\x04\x05\x06\x07\x08").device,
-        text,
-    );
-}
-
-// A box with the most of everything that setup takes.
-fn most(text: &[u8]) {
-    show::text(
-        b"box 4, vendor 2097151, text 61 62 63 64 65 66 67 68 69 6a 6b 6c 6d 6e 6f \
-          70 71 72 73 74 75 76 77 78 79 7a 30 31 32 33 34 35, address ff fe fd fc fb fa f9 f8:",
-    );
-    bodies(
-        setup(
-            4,
-            2097151,
-            b"abcdefghijklmnopqrstuvwxyz012345",
-            b"\xff\xfe\xfd\xfc\xfb\xfa\xf9\xf8",
-        ).device,
-        text,
-    );
-}
-
-// The bodies of a line, each with its reply, and the end of the line.
-pub fn bodies(device: Device, text: &[u8]) {
+fn send(device: Device, bodies: &[u8]) {
     let mut device = device;
-    let mut rest = text;
-    while 0 < rest.len() {
-        let end = find_octet(rest, 0, b',');
-        device = spelled(device, show::front(rest, end));
-        if rest.len() <= end {
-            show::letter(b'\n');
-            return;
+    let mut k: usize = 0;
+    let all = pieces(bodies, b'|');
+    while k < all {
+        if 0 < k {
+            show::text(b", then");
         }
-        show::text(b", then");
-        rest = &rest[end + 1..];
+        device = reply(device, piece(bodies, b'|', k));
+        k += 1;
     }
 }
 
-fn spelled(device: Device, text: &[u8]) -> Device {
-    let mut body = [0u8; 64];
-    let count = read_hex(text, &mut body);
-    let octets = show::front(&body, count);
-    show::octets(octets);
-    reply(device, octets)
+// A body and the reply to it; the box after it.
+fn reply(device: Device, text: &[u8]) -> Device {
+    let mut body = [0u8; MAX_OCTETS];
+    let n = octets(text, &mut body);
+    show::pair(b" ", text);
+    told(device, front(&body, n))
 }
 
-// The reply to a body; the box after it.
-fn reply(device: Device, body: &[u8]) -> Device {
-    let mut out = [0u8; 61];
+fn told(device: Device, body: &[u8]) -> Device {
+    let mut out = [0u8; Device::MAX_REPLY];
     let answered = ask(device, body, &mut out);
-    let len = answered.len;
-    show::text(b" =");
-    if len == 0 {
-        show::text(b" none");
-    } else {
-        show::octets(show::front(&out, len));
-    }
+    show_reply(&out, answered.len);
     answered.device
 }
 
-// The engine's answer, where box, body and room are such as it takes; else no reply, and the box as it was.
-fn ask(device: Device, body: &[u8], out: &mut [u8]) -> Answered {
-    if device.keeps_rules() {
-        if 2 <= body.len() {
-            if body.len() <= 1300 {
-                if body[0] / 64 == 2 {
-                    if 61 <= out.len() {
-                        return answer(device, body, out);
-                    }
-                }
+// The engine's answer, where box and body are such as it takes; else no reply, and the box as it was.
+fn ask(device: Device, body: &[u8], out: &mut [u8; Device::MAX_REPLY]) -> Answered {
+    if is_body(body) {
+        if body[0] / 64 == 2 {
+            if device.keeps_rules() {
+                return answer(device, body, out);
             }
         }
     }
     Answered { device, len: 0 }
 }
 
-// Bodies of 1,300 octets: payloads that are ignored, a name without a zero, odd octets of ports, a port again and again, a name too long.
-fn long() {
-    far(b"box 2: 81 00, 1298 times 61", 0x00, 0x61, 0x61, 1300);
-    far(b"box 2: 81 01, 1298 times 61", 0x01, 0x61, 0x61, 1300);
-    far(b"box 2: 81 03 44, 1297 times 61", 0x03, 0x44, 0x61, 1300);
-    far(b"box 2: 81 03 5c, 1297 times 61", 0x03, 0x5c, 0x61, 1300);
-    far(b"box 2: 81 03 5c, 1296 times 61", 0x03, 0x5c, 0x61, 1299);
-    far(
-        b"box 2: 81 03 44, 1296 times 61, 00",
-        0x03,
-        0x44,
-        0x00,
-        1300,
-    );
-}
-
-// A body too long to print, told in words: 81, the command, an octet, 61 as often as there is place, and the last of 1,300; its first
-// `count` octets.
-fn far(words: &[u8], command: u8, third: u8, last: u8, count: usize) {
-    let mut body = [0x61u8; 1300];
-    body[0] = 0x81;
-    body[1] = command;
-    body[2] = third;
-    body[1299] = last;
-    show::text(words);
-    reply(plain(2), show::front(&body, count));
-    show::letter(b'\n');
+fn show_reply(out: &[u8; Device::MAX_REPLY], len: usize) {
+    if len == 0 {
+        show::text(b" = none");
+    } else {
+        show::octets(b" =", front(out, len));
+    }
 }

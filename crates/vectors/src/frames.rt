@@ -1,48 +1,63 @@
-// Frames as they are written. Each body's check was worked out apart from this code, an octet at a time by a table of 256.
-use crate::cases;
-use crate::cases::Kind;
+// Frame checks, and frames as they are written.
 use crate::show;
+use crate::show::MAX_SHOWN;
+use crate::text::MAX_OCTETS;
+use crate::text::after;
+use crate::text::before;
+use crate::text::front;
+use crate::text::is_octets;
+use crate::text::octets;
+use crate::text::same;
+use frame::fcs16;
 use frame::write_frame;
 use hdlc::Reader;
+use libc::STDOUT_FILENO;
+ghost use mathlib.Core.Bool.{true};
+ghost use mathlib.Core.Path.{_≡_};
+ghost use Rattle.octets.specs.Body.{Body};
 
-pub fn run() {
-    // Nothing to escape: n + 4 octets.
-    lines(b"81 00");
-    // Each of the five escaped octets in the body.
-    lines(b"81 7e; 81 7d; 81 11; 81 13; 81 f8");
-    // Each of the five as the low octet of the check, and as the high one.
-    lines(b"82 02 5b; 81 35; 81 39; 81 19; 81 65");
-    lines(b"81 d3; 81 e0; 81 7f; 81 5d; 81 71");
-    // Every octet of body and check escaped: 2 n + 6 octets, the full 16.
-    lines(b"7e 7e f8 11 7e");
+pub fn check(shown: &[u8], text: &[u8]) -> bool {
+    let mut out = [0u8; MAX_OCTETS];
+    if is_octets(text) {
+        let n = octets(text, &mut out);
+        show::pair(shown, b" = ");
+        io::print_hex(STDOUT_FILENO, fcs16(front(&out, n)) as u64, 4);
+        return true;
+    }
+    false
 }
 
-fn lines(text: &[u8]) {
-    cases::run(Kind::Frame, text);
+pub fn frame(shown: &[u8], text: &[u8]) -> bool {
+    let mut out = [0u8; MAX_OCTETS];
+    if same(before(text, b' '), b"of") {
+        let n = octets(after(text, b' '), &mut out);
+        return framed(shown, front(&out, n));
+    }
+    false
 }
 
-pub fn line(body: &[u8]) {
-    let mut out = [0u8; 38];
-    let count = framed(body, &mut out);
-    show::text(b"frame of");
-    show::octets(body);
-    show::text(b" =");
-    show::octets(show::front(&out, count));
-    show::text(b", ");
-    show::number(count);
-    show::text(b" octets\n");
+fn framed(shown: &[u8], body: &[u8]) -> bool {
+    let mut out = [0u8; MAX_SHOWN];
+    if is_body(body) {
+        let count = write_frame(body, &mut out);
+        show::text(shown);
+        show::octets(b" =", front(&out, count));
+        show::number(b", ", count);
+        show::text(b" octets");
+        return true;
+    }
+    false
 }
 
-// A body's frame at the front of `out`, and how many octets it takes; 0 where the writer does not take these.
-pub fn framed(body: &[u8], out: &mut [u8]) -> usize {
-    if body.len() < 2 {
-        return 0;
+// Whether octets are as many as a body has.
+pub fn is_body(octets: &[u8]) -> bool
+    ensures { λ r. ⌜ (r ≡ true → Body (now (octets .entry))) ⌝ }
+{
+    if octets.len() < 2 {
+        return false;
     }
-    if Reader::MAX_BODY < body.len() {
-        return 0;
+    if Reader::MAX_BODY < octets.len() {
+        return false;
     }
-    if out.len() < 2 * body.len() + 6 {
-        return 0;
-    }
-    write_frame(body, out)
+    true
 }

@@ -1,45 +1,35 @@
-// Text on standard output.
+// Printing on standard output.
+use crate::text::front;
 use libc::STDOUT_FILENO;
+use lines::write_line;
+
+// The most octets that are printed at once: the longest frame.
+pub const MAX_SHOWN: usize = 2606;
 
 pub fn text(word: &[u8]) {
     io::write_all(STDOUT_FILENO, word);
 }
 
-pub fn letter(x: u8) {
-    let word = [x];
-    text(&word);
+pub fn pair(first: &[u8], second: &[u8]) {
+    text(first);
+    text(second);
 }
 
-pub fn number(n: usize) {
+// A number after a word.
+pub fn number(word: &[u8], n: usize) {
+    text(word);
     io::print_decimal(STDOUT_FILENO, n as u64);
 }
 
-// Each octet in hex, after a space.
-pub fn octets(xs: &[u8]) {
-    let mut i = 0;
-    while i < xs.len() {
-        octet(xs[i]);
-        i += 1;
+// Octets in hex after a word, each after a space.
+pub fn octets(word: &[u8], xs: &[u8]) {
+    let mut line = [0u8; 3 * MAX_SHOWN];
+    text(word);
+    if MAX_SHOWN < xs.len() {
+        return;
     }
-}
-
-fn octet(x: u8) {
-    letter(b' ');
-    io::print_hex(STDOUT_FILENO, x as u64, 2);
-}
-
-// The first `n` octets, or all where there are fewer.
-pub fn front(xs: &[u8], n: usize) -> &[u8] {
-    if xs.len() < n {
-        return xs;
+    let letters = write_line(xs, &mut line);
+    if 0 < letters {
+        pair(b" ", front(&line, letters - 1));
     }
-    &xs[0..n]
-}
-
-// What follows the octet at `n`, or nothing where there is none.
-pub fn after(xs: &[u8], n: usize) -> &[u8] {
-    if xs.len() <= n {
-        return &xs[0..0];
-    }
-    &xs[n + 1..]
 }

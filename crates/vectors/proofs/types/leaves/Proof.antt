@@ -1,14 +1,14 @@
 -- The measure is how many leaves are left.
-use Prim.Native.Nat.{_≤_}
+use Prim.Native.Nat.{_≤_, _-_, _+_}
 use borrow.Author.Needs.{needs}
 use Rattle.vectors.proofs.types.leaves.Statement.{statement}
 use Rattle.vectors.proofs.types.leaves.Tie as tie
 
 abbrev Inv-loop : tie.InvT-loop
-Inv-loop count list rest₀ left₀ rest left = left ≤ count
+Inv-loop count list k₀ t4 t5 k = k ≤ k + count
 
 abbrev μ-loop : tie.MeasureT-loop
-μ-loop count list rest₀ left₀ rest left = left
+μ-loop count list k₀ t4 t5 k = count - k
 
 pub leaves-spec : {M : Type 1} → statement M
 leaves-spec =
@@ -19,10 +19,8 @@ leaves-spec =
     (λ c. search needs)
     (λ c. search needs)
     (λ c κs. search needs)
+    (λ c. search needs)
     (λ c κs. search needs)
-    (λ c. search needs)
-    (λ c. search needs)
-    (λ c. search needs)
     (λ c. search needs)
     (λ c. search needs)
     (λ c. search needs)

@@ -2,17 +2,17 @@
 use Prim.Native.Nat.{_≤_}
 use borrow.Author.Needs.{needs}
 use lib.ListN.{length}
-use Rattle.vectors.proofs.boxes.bodies.Statement.{statement}
-use Rattle.vectors.proofs.boxes.bodies.Tie as tie
+use Rattle.vectors.proofs.run.Statement.{statement}
+use Rattle.vectors.proofs.run.Tie as tie
 
 abbrev Inv-loop : tie.InvT-loop
-Inv-loop text device₀ rest₀ t6 device rest = length rest ≤ length text
+Inv-loop text rest₀ rest = length rest ≤ length text
 
 abbrev μ-loop : tie.MeasureT-loop
-μ-loop text device₀ rest₀ t6 device rest = length rest
+μ-loop text rest₀ rest = length rest
 
-pub bodies-spec : {M : Type 1} → statement M
-bodies-spec =
+pub run-spec : {M : Type 1} → statement M
+run-spec =
     tie.close
     (tie.spec
     Inv-loop
@@ -22,9 +22,6 @@ bodies-spec =
     (λ c κs. search needs)
     (λ c κs. search needs)
     (λ c. search needs)
-    (λ c. search needs)
-    (λ c. search needs)
-    (λ c κs. search needs)
     (λ c. search needs)
     (λ c. search needs)
     (λ c. search needs)
