@@ -1,10 +1,11 @@
 // Printing on standard output.
 use crate::text::front;
+use hdlc::Reader;
 use libc::STDOUT_FILENO;
 use lines::write_line;
 
 // The most octets that are printed at once: the longest frame.
-pub const MAX_SHOWN: usize = 2606;
+pub const MAX_SHOWN: usize = 2 * Reader::MAX_BODY + 6;
 
 pub fn text(word: &[u8]) {
     io::write_all(STDOUT_FILENO, word);

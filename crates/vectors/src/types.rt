@@ -13,10 +13,11 @@ use crate::text::piece;
 use crate::text::pieces;
 use crate::text::same;
 use datatype::Answer;
+use datatype::Payload;
 use datatype::read_typed;
 
 // The longest list that is lent: three numbers for each octet of the longest payload.
-const MAX_LIST: usize = 3900;
+const MAX_LIST: usize = 3 * Payload::MAX_OCTETS;
 
 pub fn typed(shown: &[u8], text: &[u8]) -> bool {
     let mut payload = [0u8; MAX_OCTETS];
