@@ -1,11 +1,11 @@
 -- The measure is how many leaves are left.
-use Prim.Native.Nat.{_≤_, _-_, _+_}
+use Prim.Native.Nat.{_≤_, _-_}
 use borrow.Author.Needs.{needs}
 use Rattle.vectors.proofs.types.leaves.Statement.{statement}
 use Rattle.vectors.proofs.types.leaves.Tie as tie
 
 abbrev Inv-loop : tie.InvT-loop
-Inv-loop count list k₀ t4 t5 k = k ≤ k + count
+Inv-loop count list k₀ t4 t5 k = k ≤ count
 
 abbrev μ-loop : tie.MeasureT-loop
 μ-loop count list k₀ t4 t5 k = count - k
