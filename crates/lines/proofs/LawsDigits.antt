@@ -1,16 +1,12 @@
 -- Laws of the letters that are digits.
-use mathlib.Core.Bool.{Bool, true, false, _&&_}
-use mathlib.Core.Path.{_≡_, refl}
+use mathlib.Core.Bool.{true, false, and-false}
+use mathlib.Core.Path.{_≡_}
 use Prim.Native.Nat.{ℕ, _+_, _-_, _≤_, _<_}
 use native.Mathlib.Omega.{arith}
 use borrow.Author.Tests.{le-leb, lt-leb}
 use lib.Dec.{leb}
 use Rattle.octets.proofs.LawsTests.{both}
 use Rattle.lines.specs.Reader.{isBetween, digitOf}
-
-neither : (a : Bool) {b : Bool} → b ≡ false → a && b ≡ false
-neither true e = e
-neither false e = refl
 
 module _ (low high c : ℕ) where
   inside : low ≤ c → c ≤ high → isBetween low high c ≡ true
@@ -23,7 +19,7 @@ module _ (low high c : ℕ) where
 
   above : high < c → isBetween low high c ≡ false
   unfolding isBetween
-  above h = neither (leb low c) (lt-leb _ _ h)
+  above h = simp (lt-leb c high h, and-false)
 
 -- ---- the value of a letter, from 0 up
 

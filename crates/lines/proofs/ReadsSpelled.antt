@@ -7,7 +7,8 @@ use Prim.Native.Nat.{ℕ, suc, _≤_, _<_}
 use native.Mathlib.Omega.{arith}
 use native.Mathlib.Nat.{zero-add}
 use lib.ListN.{length, take, drop, getD, take-append-drop, drop-of-length-le}
-use lib.Seq.{sets, sets-eq, length-take-le, drop-cons}
+use lib.Seq.{sets, length-take-le, drop-cons}
+use Rattle.octets.proofs.LawsWriting.{sets-front}
 use Rattle.lines.specs.declared.reader.Stage.the-variants.{Space}
 use Rattle.lines.specs.declared.reader.HexLine.the-variants.{Octets, More}
 use Rattle.lines.specs.Spelling.{space, Spells, none, last, joined, spaced}
@@ -38,14 +39,11 @@ from-fresh : (out : List ℕ) (x : ℕ) (xs : List ℕ) → foldl withOctet (kee
 unfolding withOctet
 from-fresh out x xs = refl
 
-at-front : (xs out : List ℕ) → length xs ≤ length out → sets out 0 xs ≡ xs ++ drop (length xs) out
-at-front xs out room = let z = zero-add (length xs) in sets-eq xs out 0 (rw z room) ∙ ap (λ n. xs ++ drop n out) z
-
 front-kept : (xs out : List ℕ) → length xs ≤ length out
     → foldl withOctet (keeping (behind 0 false) out) xs ≡ keeping (behind (length xs) false) (xs ++ drop (length xs) out)
 front-kept xs out room =
     let z = zero-add (length xs) in
-    all-kept xs 0 false out (rw z room) ∙ ap (λ k. keeping (behind k false) (sets out 0 xs)) z ∙ ap (keeping (behind (length xs) false)) (at-front xs out room)
+    all-kept xs 0 false out (rw z room) ∙ ap (λ k. keeping (behind k false) (sets out 0 xs)) z ∙ ap (keeping (behind (length xs) false)) (sets-front xs out room)
 
 pub reads-spelled : {text xs : List ℕ} → Spells text xs → (out : List ℕ) → length xs ≤ length out
     → readLine text out ≡ outcome (Octets (length xs)) (xs ++ drop (length xs) out)

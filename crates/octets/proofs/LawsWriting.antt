@@ -26,13 +26,17 @@ wrote-both {xs = xs} {ys = ys} v w =
       end = omega (arith, v .end, w .end, length-append xs ys);
     }
 
--- what was written from the front stands there, and behind it what stood there before
+-- what is put from the front stands there, and behind it what stood there before
+pub sets-front : (xs s : List ℕ) → length xs ≤ length s → sets s 0 xs ≡ xs ++ drop (length xs) s
+sets-front xs s room = let z = zero-add (length xs) in sets-eq xs s 0 (rw z room) ∙ ap (λ n. xs ++ drop n s) z
+
+-- the same of a writer
 module _ {s t : List ℕ} {next : ℕ} {xs : List ℕ} (room : length xs ≤ length s) (w : Wrote s t 0 next xs) where
   pub front-count : next ≡ length xs
   front-count = w .end ∙ zero-add (length xs)
 
   pub front-held : t ≡ xs ++ drop (length xs) s
-  front-held = let z = zero-add (length xs) in w .held ∙ sets-eq xs s 0 (rw z room) ∙ ap (λ n. xs ++ drop n s) z
+  front-held = w .held ∙ sets-front xs s room
 
   pub front-taken : take next t ≡ xs
   front-taken = rw (front-count, front-held) (take-append-seam xs (drop (length xs) s))
