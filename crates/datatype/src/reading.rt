@@ -37,6 +37,20 @@ pub enum Answer {
     ShortList,
 }
 
+impl Answer {
+    // 01's number of the answer.
+    pub fn number(self) -> u32
+        ensures { λ r. ⌜ r ≡ reported self .number ⌝ }
+    {
+        match self {
+            Answer::Leaves(_) => 0,
+            Answer::Malformed => 15,
+            Answer::Misfit => 16,
+            Answer::ShortList => 17,
+        }
+    }
+}
+
 // Reads a payload by a type string. The leaves go to `list`, three numbers each: letter, start, length.
 pub fn read_typed(types: &[u8], payload: &[u8], list: &mut [u32]) -> Answer
     ensures { λ r. ⌜ reported r ≡ reportOf (answerTo (now (types .entry)) (now (payload .entry)) (now (list .entry))) ⌝ }

@@ -6,12 +6,24 @@ use octets::write_octets;
 ghost use mathlib.Core.Path.{_≡_};
 ghost use lib.ListN.{length};
 ghost use Rattle.device.specs.State.{addressSize};
-ghost use Rattle.device.specs.Setup.{reported, refusal, setupFor};
+ghost use Rattle.device.specs.Setup.{numberOf, reported, refusal, setupFor};
 
 // 01's numbers: 0 and 14.
 pub enum Answer {
     Ready,
     BadSetup,
+}
+
+impl Answer {
+    // 01's number of the answer.
+    pub fn number(self) -> u32
+        ensures { λ r. ⌜ r ≡ numberOf self ⌝ }
+    {
+        match self {
+            Answer::Ready => 0,
+            Answer::BadSetup => 14,
+        }
+    }
 }
 
 pub struct Configured {

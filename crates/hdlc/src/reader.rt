@@ -7,7 +7,7 @@ ghost use mathlib.Core.Bool.{Bool, true};
 ghost use mathlib.Core.Path.{_≡_};
 ghost use Prim.Native.Nat.{_≤_};
 ghost use lib.ListN.{length};
-ghost use Rattle.hdlc.specs.Reader.{maxGathered, gathering, fresh, assembling, outcome, frameFate, flagFate, gather, afterContent, afterOctet, fateAt, decided, run};
+ghost use Rattle.hdlc.specs.Reader.{fateNumber, maxGathered, gathering, fresh, assembling, outcome, frameFate, flagFate, gather, afterContent, afterOctet, fateAt, decided, run};
 ghost use Rattle.hdlc.specs.Rules.{rules};
 
 // What became of a frame, with 01's number of each fate.
@@ -26,6 +26,23 @@ pub enum Fate {
     CutEscape,
     // 6: the top two header bits are not 10.
     BadHeader,
+}
+
+impl Fate {
+    // 01's number of the fate.
+    pub fn number(self) -> u32
+        ensures { λ r. ⌜ r ≡ fateNumber self ⌝ }
+    {
+        match self {
+            Fate::Unfinished => 0,
+            Fate::Checked(_) => 1,
+            Fate::Short => 2,
+            Fate::WrongCheck => 3,
+            Fate::TooLong => 4,
+            Fate::CutEscape => 5,
+            Fate::BadHeader => 6,
+        }
+    }
 }
 
 pub struct Reader {

@@ -15,7 +15,7 @@ ghost use Rattle.hdlc.specs.Reader.{maxGathered, assembling, run};
 ghost use Rattle.hdlc.specs.Rules.{rules as readerRules};
 ghost use Rattle.device.specs.Rules.{rules};
 ghost use Rattle.engine.specs.Engine.{engine};
-ghost use Rattle.serial.specs.Receiving.{minOutput, resultOf, breaksRules, unrefused, receive};
+ghost use Rattle.serial.specs.Receiving.{numberOf, minOutput, resultOf, breaksRules, unrefused, receive};
 
 // What a call answers, with 01's numbers.
 pub enum Answer {
@@ -27,6 +27,20 @@ pub enum Answer {
     SmallAssembly,
     // 13: the output has under 128 octets.
     SmallOutput,
+}
+
+impl Answer {
+    // 01's number of the answer.
+    pub fn number(self) -> u32
+        ensures { λ r. ⌜ r ≡ numberOf self ⌝ }
+    {
+        match self {
+            Answer::Read(fate) => fate.number(),
+            Answer::BadState => 11,
+            Answer::SmallAssembly => 12,
+            Answer::SmallOutput => 13,
+        }
+    }
 }
 
 pub struct Received {
