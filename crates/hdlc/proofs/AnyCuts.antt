@@ -12,7 +12,8 @@ use Rattle.octets.proofs.LawsRuns.{each-append, emitted-append}
 use Rattle.octets.proofs.LawsTests.{by-test}
 use Rattle.frame.specs.Frame.{stuffed}
 use Rattle.hdlc.specs.declared.reader.Reader.{Reader}
-use Rattle.hdlc.specs.Reader.{decided, maxGathered, fresh, Assembling, assembling, run}
+use Rattle.hdlc.specs.Fate.{decided}
+use Rattle.hdlc.specs.Reader.{maxGathered, fresh, Assembling, assembling, run}
 use Rattle.hdlc.specs.Rules.{Rules}
 use Rattle.hdlc.specs.Wire.{ended, grown, finished, unfinished, fatesOf, call, callReads, wire}
 use Rattle.hdlc.specs.States.{holding, openPiece, closedForm}

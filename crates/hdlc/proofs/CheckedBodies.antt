@@ -1,64 +1,53 @@
--- PROMISE: a checked body has 2 to 1,300 octets and the top two header bits 10.
+-- PROMISE: what a checked frame is. By the octets alone, a piece has fate 1 exactly when no escape is cut in it, the octets that it stands
+-- for are a body and that body's check, and the body has 2 to 1,300 octets and the top two header bits 10. So a call gives fate 1 for such
+-- bodies only.
 use mathlib.Core.Logic.{⊎-elim}
-use mathlib.Core.Bool.{true}
-use mathlib.Core.Path.{_≡_, refl, ap, _∙_}
+use mathlib.Core.Path.{_≡_, refl, sym, ap, subst, _∙_}
 use mathlib.Core.List.{List}
-use Prim.Native.Nat.{ℕ, _/_, _≤_}
+use Prim.Native.Nat.{ℕ, _-_, _/_, _≤_}
 use native.Mathlib.Omega.{arith}
-use borrow.Author.Tests.{ltb-false}
-use lib.Dec.{ltb, eqb}
-use lib.ListN.{length, getD, List·getD-append}
-use lib.Seq.{getD-take}
-use Rattle.octets.specs.Body.{maxBody, minBody}
-use Rattle.octets.proofs.LawsTests.{by-test, impossible}
-use Rattle.hdlc.specs.declared.reader.Fate.{Fate}
-use Rattle.hdlc.specs.declared.reader.Fate.the-variants.{Unfinished, Checked, Short, WrongCheck, TooLong, CutEscape, BadHeader}
+use borrow.Author.Tests.{le-ltb, eq-eqb, ne-eqb}
+use lib.ListN.{length, getD}
+use Rattle.octets.specs.Body.{SpinelBody}
 use Rattle.hdlc.specs.declared.reader.Reader.{Reader}
-use Rattle.hdlc.specs.Reader.{fateNumber, maxGathered, assembling, run}
+use Rattle.hdlc.specs.Fate.{Fated, checked}
+use Rattle.hdlc.specs.Reader.{maxGathered, assembling, run}
 use Rattle.hdlc.specs.Rules.{Rules}
-use Rattle.hdlc.specs.Wire.{gathered, cutEscape, pieceFate, bodyIn, call}
-use Rattle.hdlc.specs.States.{over, openPiece, closedForm}
-use Rattle.hdlc.proofs.LawsFates.{frame-fate-checked}
-use Rattle.hdlc.proofs.LawsStates.{over-few}
+use Rattle.hdlc.specs.Wire.{gathered, contentFate, pieceFate, CheckedPiece, call}
+use Rattle.hdlc.specs.States.{openPiece, closedForm}
+use Rattle.hdlc.proofs.LawsFates.{header-gathered, body-size, by-piece}
 use Rattle.hdlc.proofs.LawsCalls.{call-fate}
 use Rattle.hdlc.proofs.ClosedForm.{closed-form}
 
--- of the piece that a call ended in
-piece-checked : (p a : List ℕ) (n : ℕ) → pieceFate p ≡ Checked n → (minBody ≤ n) × (n ≤ maxBody) × (getD (over (gathered p) a) 0 0 / 64 ≡ 2)
-unfolding pieceFate
-piece-checked p a n =
-    let g = gathered p in
-    by-test (ltb maxGathered (length g)) (λ t. simp t (λ e. impossible cc))
-    (λ t. simp (t, over-few g a (ltb-false _ _ t))
-    (by-test (cutEscape p) (λ u. simp u (λ e. impossible cc))
-    (λ u. simp u
-    (by-test (eqb (length g) 0) (λ v. simp v (λ e. impossible cc))
-    (λ v. simp v
-    (λ e.
-    let j = frame-fate-checked g n e in
-    rw (List·getD-append g _ 0 0 (omega arith)) (omega arith, omega (arith, ltb-false), j .2)))))))
+pub checked-piece : (p : List ℕ) → pieceFate p .number ≡ 1 → CheckedPiece p (pieceFate p .body)
+checked-piece p =
+    by-piece (λ f. f .number ≡ 1 → CheckedPiece p (f .body)) p (λ e. absurd (omega arith)) (λ e. absurd (omega arith)) (λ _ e. absurd (omega arith))
+    (λ e. absurd (omega arith)) (λ e. absurd (omega arith)) (λ e. absurd (omega arith)) (λ c _. c)
 
-pub checked-body : (r : Reader) (a xs : List ℕ) (n : ℕ) → Rules r → maxGathered ≤ length a → run (assembling r a) xs .fate ≡ Checked n
-    → (minBody ≤ n) × (n ≤ maxBody) × (getD (run (assembling r a) xs .state .assembly) 0 0 / 64 ≡ 2)
+pub piece-checked : (p body : List ℕ) → CheckedPiece p body → pieceFate p ≡ checked body
+unfolding pieceFate contentFate
+piece-checked p body c =
+    let g = gathered p in
+    let size : length body ≡ length g - 2 = sym (ap length (c .first)) ∙ body-size g in
+    let many : 4 ≤ length g = omega (arith, c .bounds) in
+    let header = sym (header-gathered g many) ∙ ap (λ b. getD b 0 0) (c .first) in
+    simp (
+      le-ltb maxGathered (length g) (omega (arith, c .bounds)),
+      c .whole,
+      ne-eqb (length g) 0 (λ e. omega arith),
+      le-ltb (length g) 4 many,
+      c .first,
+      eq-eqb _ _ (c .check),
+      header,
+      eq-eqb _ _ (c .bounds .2),
+    )
+
+pub checked-body : (r : Reader) (a xs : List ℕ) → Rules r → maxGathered ≤ length a
+    → let f = run (assembling r a) xs .fate in f .number ≡ 1 → SpinelBody (f .body)
 unfolding closedForm
-checked-body r a xs n keeps room =
+checked-body r a xs keeps room =
     let p = openPiece r a in
     rw (closed-form r a xs keeps room)
-    (λ e. piece-checked (call p xs .state) a n (⊎-elim (λ u. impossible cc) (λ u. cc) (call-fate xs p)))
-
--- the same of the body that fate 1 is given for
-pub checked-top : (r : Reader) (a xs : List ℕ) → Rules r → maxGathered ≤ length a
-    → let o = run (assembling r a) xs in eqb (fateNumber (o .fate)) 1 ≡ true → getD (bodyIn (o .fate) (o .state .assembly)) 0 0 / 64 ≡ 2
-checked-top r a xs keeps room =
-    let o = run (assembling r a) xs in
-    by (o .fate) (o .state .assembly) (λ n. checked-body r a xs n keeps room)
-  where
-    by : (f : Fate) (g : List ℕ) → ((n : ℕ) → f ≡ Checked n → (minBody ≤ n) × (n ≤ maxBody) × (getD g 0 0 / 64 ≡ 2))
-        → eqb (fateNumber f) 1 ≡ true → getD (bodyIn f g) 0 0 / 64 ≡ 2
-    by Unfinished g t e = impossible cc
-    by (Checked n) g t e = let b = t n refl in ap (λ h. h / 64) (getD-take n g 0 0 (omega arith)) ∙ b .2
-    by Short g t e = impossible cc
-    by WrongCheck g t e = impossible cc
-    by TooLong g t e = impossible cc
-    by CutEscape g t e = impossible cc
-    by BadHeader g t e = impossible cc
+    (λ e.
+    ⊎-elim (λ u. absurd (omega (arith, ap (λ f. f .number) u)))
+    (λ u. subst (λ f. SpinelBody (f .body)) (sym u) (checked-piece (call p xs .state) (sym (ap (λ f. f .number) u) ∙ e) .bounds)) (call-fate xs p))

@@ -11,7 +11,8 @@ use lib.Seq.{length-take-le}
 use Rattle.octets.proofs.LawsTests.{by-test}
 use Rattle.frame.specs.Frame.{stuffed}
 use Rattle.hdlc.specs.declared.reader.Reader.{Reader}
-use Rattle.hdlc.specs.Reader.{decided, maxGathered, gathering, overlong, assembling, later, run}
+use Rattle.hdlc.specs.Fate.{decided, later}
+use Rattle.hdlc.specs.Reader.{maxGathered, gathering, overlong, assembling, run}
 use Rattle.hdlc.specs.Rules.{Rules}
 use Rattle.hdlc.specs.Wire.{gathered, cutEscape, pieceFateAt, grown, call}
 use Rattle.hdlc.specs.States.{over, holding, openPiece, closedForm}

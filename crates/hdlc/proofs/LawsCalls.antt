@@ -1,39 +1,36 @@
 -- One call, told by the octets that it read.
-use mathlib.Core.Bool.{true, false, cond, true≢false, false≢true}
-use mathlib.Core.Logic.{_⊎_, inl, inr, ⊎-elim}
+use mathlib.Core.Bool.{true, false, cond}
+use mathlib.Core.Logic.{_⊎_, inl, inr}
 use mathlib.Core.Path.{_≡_, refl, sym, ap, _∙_}
 use mathlib.Core.List.{List, [], _∷_, _++_, append-nil}
 use Prim.Native.Nat.{ℕ, suc, _≤_}
 use native.Mathlib.Omega.{arith}
 use native.Mathlib.Numerals.{one-add}
-use borrow.Author.Tests.{ltb-false}
-use lib.Dec.{ltb, eqb}
 use lib.ListN.{length}
 use Rattle.octets.proofs.LawsRuns.{each-append}
-use Rattle.octets.proofs.LawsTests.{by-test}
+use Rattle.octets.proofs.LawsTests.{by-test, impossible}
 use Rattle.frame.specs.Kind.{isFlag}
-use Rattle.hdlc.specs.declared.reader.Fate.the-variants.{Unfinished}
-use Rattle.hdlc.specs.Reader.{decided, frameFate, maxGathered, fresh, Assembling, assembling, run}
-use Rattle.hdlc.specs.Wire.{kept, gathered, cutEscape, pieceFate, ended, grown, finished, unfinished, fated, fatesOf, Call, pieceFateAt, call, callReads}
+use Rattle.hdlc.specs.Fate.{unchecked, decided, given}
+use Rattle.hdlc.specs.Reader.{maxGathered, fresh, Assembling, assembling, run}
+use Rattle.hdlc.specs.Wire.{kept, gathered, cutEscape, pieceFate, ended, grown, finished, unfinished, fatesOf, Call, pieceFateAt, call, callReads}
 use Rattle.hdlc.specs.States.{readerAfter, over, holding, closedForm}
-use Rattle.hdlc.proofs.LawsFates.{fated-frame}
-use Rattle.hdlc.proofs.LawsStates.{over-few, over-length, decides-flag}
+use Rattle.hdlc.proofs.LawsStates.{over-length, decides-flag}
 use Rattle.hdlc.proofs.ClosedForm.{call-closed}
 
 -- ---- the octets that a call read
 
 -- the fate of the piece that an octet ends
-told-ends : (p : List ℕ) (b : ℕ) → fatesOf (ended p b) ≡ fated (pieceFateAt p b) (gathered p)
-unfolding fatesOf ended pieceFateAt fated
-told-ends p b = by-test (isFlag b) (λ f. simp f (append-nil (fated (pieceFate p) (gathered p)))) (λ f. simp f)
+told-ends : (p : List ℕ) (b : ℕ) → fatesOf (ended p b) ≡ given (pieceFateAt p b)
+unfolding fatesOf ended pieceFateAt given
+told-ends p b = by-test (isFlag b) (λ f. simp f (append-nil (given (pieceFate p)))) (λ f. simp f)
 
 -- what a call read finishes the piece with its fate, if any, and leaves the piece that it ended in or nothing
 pub record Reads (p xs : List ℕ) : Type 0 where
-  pub tells : fatesOf (finished p (callReads p xs)) ≡ fated (call p xs .fate) (gathered (call p xs .state))
+  pub tells : fatesOf (finished p (callReads p xs)) ≡ given (call p xs .fate)
   pub leaves : unfinished p (callReads p xs) ≡ cond (decided (call p xs .fate)) [] (call p xs .state)
 
 pub reads : (xs p : List ℕ) → Reads p xs
-unfolding callReads call finished unfinished grown fatesOf fated
+unfolding callReads call finished unfinished grown fatesOf given
 reads [] p = record { tells = refl; leaves = refl }
 reads (b ∷ bs) p =
     by-test (decided (pieceFateAt p b))
@@ -50,32 +47,12 @@ reads (b ∷ bs) p =
       leaves = simp (t, one-add) (rest .leaves);
     })
 
--- ---- the body stands first in the buffer
-
 -- a call's fate is that of the piece that it ended in, if it has one
-pub call-fate : (xs p : List ℕ) → (call p xs .fate ≡ Unfinished) ⊎ (call p xs .fate ≡ pieceFate (call p xs .state))
+pub call-fate : (xs p : List ℕ) → (call p xs .fate ≡ unchecked 0) ⊎ (call p xs .fate ≡ pieceFate (call p xs .state))
 unfolding call pieceFateAt
 call-fate [] p = inl refl
 call-fate (b ∷ bs) p =
     by-test (decided (pieceFateAt p b)) (λ t. simp t (inr (simp (decides-flag p b t)))) (λ t. simp t (call-fate bs (grown p b)))
-
-told-over : (p a : List ℕ) → fated (pieceFate p) (over (gathered p) a) ≡ fated (pieceFate p) (gathered p)
-unfolding pieceFate fated
-told-over p a =
-    by-test (ltb maxGathered (length (gathered p))) (λ t. simp t)
-    (λ t. simp t
-    (by-test (cutEscape p) (λ u. simp u)
-    (λ u. simp u
-    (by-test (eqb (length (gathered p)) 0) (λ v. simp v)
-    (λ v. simp v
-    (ap (fated (frameFate (gathered p))) (over-few (gathered p) a (ltb-false _ _ t)) ∙ fated-frame (gathered p) _))))))
-
-told-call : (p a xs : List ℕ) → fated (call p xs .fate) (over (gathered (call p xs .state)) a) ≡ fated (call p xs .fate) (gathered (call p xs .state))
-unfolding fated
-told-call p a xs =
-    let q = call p xs .state in
-    ⊎-elim (λ e. ap (λ f. fated f (over (gathered q) a)) e ∙ sym (ap (λ f. fated f (gathered q)) e))
-    (λ e. ap (λ f. fated f (over (gathered q) a)) e ∙ told-over q a ∙ sym (ap (λ f. fated f (gathered q)) e)) (call-fate xs p)
 
 -- ---- what a call leaves
 
@@ -107,15 +84,10 @@ after-call p a xs room =
     })
     (λ t. record { under = a; room = room; state = is ∙ undecided-state c a t ∙ ap (λ z. holding z a) (sym (left ∙ simp t)) })
 
-closed-told : (c : Call) (a : List ℕ) → fated (closedForm c a .fate) (closedForm c a .state .assembly) ≡ fated (c .fate) (over (gathered (c .state)) a)
-unfolding closedForm
-closed-told c a = refl
-
 -- what a call tells is the fate of the piece that it finished, if any
-pub call-tells : (p a xs : List ℕ) → maxGathered ≤ length a
-    → fated (run (holding p a) xs .fate) (run (holding p a) xs .state .assembly) ≡ fatesOf (finished p (callReads p xs))
-call-tells p a xs room =
-    ap (λ o. fated (o .fate) (o .state .assembly)) (call-closed xs p a room) ∙ closed-told (call p xs) a ∙ told-call p a xs ∙ sym (reads xs p .tells)
+pub call-tells : (p a xs : List ℕ) → maxGathered ≤ length a → given (run (holding p a) xs .fate) ≡ fatesOf (finished p (callReads p xs))
+unfolding closedForm
+call-tells p a xs room = ap (λ o. given (o .fate)) (call-closed xs p a room) ∙ sym (reads xs p .tells)
 
 -- ---- how much it reads
 
@@ -124,9 +96,9 @@ pub reads-all : (xs p : List ℕ) → decided (call p xs .fate) ≡ false → ca
 unfolding call
 reads-all [] p = λ e. refl
 reads-all (b ∷ bs) p =
-    by-test (decided (pieceFateAt p b)) (λ t. simp t (λ e. absurd (true≢false e))) (λ t. simp (t, one-add) (λ e. ap suc (reads-all bs (grown p b) e)))
+    by-test (decided (pieceFateAt p b)) (λ t. simp t (λ e. impossible cc)) (λ t. simp (t, one-add) (λ e. ap suc (reads-all bs (grown p b) e)))
 
 pub reads-some : (xs p : List ℕ) → decided (call p xs .fate) ≡ true → (1 ≤ call p xs .read) × (1 ≤ length xs)
 unfolding call
-reads-some [] p = λ e. absurd (false≢true e)
+reads-some [] p = λ e. impossible cc
 reads-some (b ∷ bs) p = by-test (decided (pieceFateAt p b)) (λ t. simp t (λ e. omega arith)) (λ t. simp t (λ e. omega arith))

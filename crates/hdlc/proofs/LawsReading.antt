@@ -13,29 +13,19 @@ use Rattle.octets.proofs.LawsLists.{drop-next}
 use Rattle.octets.proofs.LawsTests.{chosen}
 use Rattle.hdlc.specs.declared.reader.Fate.{Fate}
 use Rattle.hdlc.specs.declared.reader.Fate.the-variants.{Unfinished, Checked, Short, WrongCheck, TooLong, CutEscape, BadHeader}
-use Rattle.hdlc.specs.Reader.{fateNumber, Assembling, afterOctet, fateAt, decided, Read, later, run}
-use Rattle.hdlc.specs.Wire.{bodyIn}
+use Rattle.hdlc.specs.Fate.{Fated, unchecked, decided, fateNumber, Read, later}
+use Rattle.hdlc.specs.Reader.{Assembling, afterOctet, fateAt, run}
 use Rattle.hdlc.proofs.reader.Fate.{the-type as fate-type}
 
--- the `else` of an `if let` tells that the tag is one of the others: a fate that is not 0 decides
-pub tag-decided : (f : Fate) → OneOf (1 ∷ 2 ∷ 3 ∷ 4 ∷ 5 ∷ 6 ∷ []) (tagOf fate-type f) → true ≡ decided f
-tag-decided Unfinished o = absurd (miss (1 ∷ 2 ∷ 3 ∷ 4 ∷ 5 ∷ 6 ∷ []) 0 tt o)
-tag-decided (Checked n) o = refl
-tag-decided Short o = refl
-tag-decided WrongCheck o = refl
-tag-decided TooLong o = refl
-tag-decided CutEscape o = refl
-tag-decided BadHeader o = refl
-
--- and so of a fate that is not 1: it has no body
-pub tag-unchecked : (f : Fate) (xs : List ℕ) → OneOf (0 ∷ 2 ∷ 3 ∷ 4 ∷ 5 ∷ 6 ∷ []) (tagOf fate-type f) → (eqb (fateNumber f) 1 ≡ false) × (bodyIn f xs ≡ [])
-tag-unchecked Unfinished xs o = (refl, refl)
-tag-unchecked (Checked n) xs o = absurd (miss (0 ∷ 2 ∷ 3 ∷ 4 ∷ 5 ∷ 6 ∷ []) 1 tt o)
-tag-unchecked Short xs o = (refl, refl)
-tag-unchecked WrongCheck xs o = (refl, refl)
-tag-unchecked TooLong xs o = (refl, refl)
-tag-unchecked CutEscape xs o = (refl, refl)
-tag-unchecked BadHeader xs o = (refl, refl)
+-- the `else` of an `if let` tells that the tag is one of the others: a fate that is not 1
+pub tag-unchecked : (f : Fate) → OneOf (0 ∷ 2 ∷ 3 ∷ 4 ∷ 5 ∷ 6 ∷ []) (tagOf fate-type f) → eqb (fateNumber f) 1 ≡ false
+tag-unchecked Unfinished o = refl
+tag-unchecked (Checked n) o = absurd (miss (0 ∷ 2 ∷ 3 ∷ 4 ∷ 5 ∷ 6 ∷ []) 1 tt o)
+tag-unchecked Short o = refl
+tag-unchecked WrongCheck o = refl
+tag-unchecked TooLong o = refl
+tag-unchecked CutEscape o = refl
+tag-unchecked BadHeader o = refl
 
 pub later-zero : {S : Type 0} (o : Read S) → later 0 o ≡ o
 later-zero o = λ i. record { fate = o .fate; read = zero-add (o .read) i; state = o .state }
@@ -53,15 +43,15 @@ run-reads (b ∷ bs) h =
 -- ---- the outcome of what is left from `at` on
 
 pub run-end : (h : Assembling) (xs : List ℕ) (at : ℕ) → length xs ≤ at
-    → later at (run h (drop at xs)) ≡ record { fate = Unfinished; read = at; state = h }
+    → later at (run h (drop at xs)) ≡ record { fate = unchecked 0; read = at; state = h }
 unfolding run
 run-end h xs at p =
-    ap (λ ys. later at (run h ys)) (drop-of-length-le xs p) ∙ (λ i. record { fate = Unfinished; read = add-zero at i; state = h })
+    ap (λ ys. later at (run h ys)) (drop-of-length-le xs p) ∙ (λ i. record { fate = unchecked 0; read = add-zero at i; state = h })
 
 -- after one octet more, which gives the fate f and the state g
 module _
     (h : Assembling) (xs : List ℕ) (at : ℕ) (inside : at < length xs)
-    {f : Fate} {g : Assembling} (fate : f ≡ fateAt h (getD xs at 0)) (next : g ≡ afterOctet h (getD xs at 0)) where
+    {f : Fated} {g : Assembling} (fate : f ≡ fateAt h (getD xs at 0)) (next : g ≡ afterOctet h (getD xs at 0)) where
   pub run-next : decided f ≡ false → later at (run h (drop at xs)) ≡ later (at + 1) (run g (drop (at + 1) xs))
   unfolding run
   run-next e = ap (λ ys. later at (run h ys)) (drop-next xs at inside) ∙ rw (← fate, ← next, e) (later-later at 1 _)

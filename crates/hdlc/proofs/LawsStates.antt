@@ -1,5 +1,5 @@
 -- The reader's state after each octet is the state of the piece after it.
-use mathlib.Core.Bool.{Bool, true, false, cond, true≢false, false≢true}
+use mathlib.Core.Bool.{Bool, true, false, cond}
 use mathlib.Core.Path.{_≡_, refl, sym, ap, ap₂, _∙_}
 use mathlib.Core.List.{List, [], _∷_, _++_, append-assoc, append-nil}
 use Prim.Native.Nat.{ℕ, suc, _+_, _≤_, _<_}
@@ -10,13 +10,13 @@ use lib.Dec.{ltb, eqb}
 use lib.Bits.{bitXor}
 use lib.ListN.{length, take, drop, set, length-append, length-drop, length-take}
 use lib.Seq.{take-all, take-append-le, take-append-seam, set-at, drop-cons}
-use Rattle.octets.proofs.LawsTests.{by-test}
+use Rattle.octets.proofs.LawsTests.{by-test, impossible}
 use Rattle.frame.specs.Kind.{isFlag, isEscape, isSkipped}
-use Rattle.hdlc.specs.declared.reader.Fate.the-variants.{Unfinished, CutEscape}
-use Rattle.hdlc.specs.Reader.{decided, frameFate, maxGathered, gathering, overlong, fresh, assembling, gather, afterContent, afterOctet, flagFate, fateAt}
+use Rattle.hdlc.specs.Fate.{unchecked, decided}
+use Rattle.hdlc.specs.Reader.{frameFate, maxGathered, gathering, overlong, fresh, assembling, gather, afterContent, afterOctet, flagFate, fateAt}
 use Rattle.hdlc.specs.Wire.{kept, meant, pends, gathered, cutEscape, pieceFate, grown, pieceFateAt}
 use Rattle.hdlc.specs.States.{readerAfter, over, holding}
-use Rattle.hdlc.proofs.LawsFates.{frame-fate-decided}
+use Rattle.hdlc.proofs.LawsFates.{content-fate, undecided-empty}
 use Rattle.hdlc.proofs.LawsPieces.{Adds, gathered-append, skipped-adds, content-adds}
 
 -- ---- gathered octets over a buffer
@@ -126,31 +126,17 @@ flag-piece p a =
     (λ few.
     ap flagFate (gathering-state p a few)
     ∙ simp (le-ltb maxGathered (length (gathered p)) few)
-    (ap (λ l. cond (cutEscape p) CutEscape (cond (eqb (length (gathered p)) 0) Unfinished (frameFate l))) (take-append-seam (gathered p) _)))
+    (ap (λ f. cond (cutEscape p) (unchecked 5) (cond (eqb (length (gathered p)) 0) (unchecked 0) f))
+    (ap frameFate (take-append-seam (gathered p) _) ∙ content-fate (gathered p))))
 
 pub fate-piece : (p a : List ℕ) (b : ℕ) → fateAt (holding p a) b ≡ pieceFateAt p b
 unfolding fateAt pieceFateAt
-fate-piece p a b = ap (λ f. cond (isFlag b) f Unfinished) (flag-piece p a)
+fate-piece p a b = ap (λ f. cond (isFlag b) f (unchecked 0)) (flag-piece p a)
 
 -- only a flag decides
 pub decides-flag : (p : List ℕ) (b : ℕ) → decided (pieceFateAt p b) ≡ true → isFlag b ≡ true
 unfolding pieceFateAt
-decides-flag p b = by-test (isFlag b) (λ f d. f) (λ f. simp f (λ d. absurd (false≢true d)))
-
--- a flag that decides nothing ends a piece that stands for nothing
-pub undecided-empty : (p : List ℕ) → decided (pieceFate p) ≡ false → gathered p ≡ []
-unfolding pieceFate
-undecided-empty p =
-    by-test (ltb maxGathered (length (gathered p))) (λ t. simp t (λ e. absurd (true≢false e)))
-    (λ t. simp t
-    (by-test (cutEscape p) (λ u. simp u (λ e. absurd (true≢false e)))
-    (λ u. simp u
-    (by-test (eqb (length (gathered p)) 0) (λ v. simp v (λ e. empty (gathered p) (eqb-true _ _ v)))
-    (λ v. simp v (λ e. absurd (true≢false (sym (frame-fate-decided (gathered p)) ∙ e))))))))
-  where
-    empty : (g : List ℕ) → length g ≡ 0 → g ≡ []
-    empty [] e = refl
-    empty (x ∷ xs) e = absurd (omega arith)
+decides-flag p b = by-test (isFlag b) (λ f d. f) (λ f. simp f (λ d. impossible cc))
 
 flag-after : (p a : List ℕ) → decided (pieceFate p) ≡ false → assembling fresh (holding p a .assembly) ≡ holding [] a
 unfolding holding readerAfter gathered cutEscape kept over

@@ -7,7 +7,7 @@ use lib.ListN.{length, length-append}
 use Rattle.frame.specs.Kind.{isFlag, isEscape, isSkipped}
 use Rattle.frame.proofs.LawsKinds.{Tests, by-octet}
 use Rattle.frame.specs.Frame.{sent, stuffed}
-use Rattle.hdlc.specs.Reader.{later}
+use Rattle.hdlc.specs.Fate.{later}
 use Rattle.hdlc.specs.Wire.{kept, meant, pends, gathered, cutEscape, grown, pieceFateAt, call}
 use Rattle.hdlc.proofs.LawsReading.{later-zero, later-later}
 use Rattle.hdlc.proofs.LawsPieces.{gathered-append, cut-append}

@@ -9,7 +9,8 @@ use lib.Dec.{ltb}
 use lib.ListN.{length}
 use Rattle.octets.proofs.LawsTests.{by-test}
 use Rattle.hdlc.specs.declared.reader.Reader.{Reader}
-use Rattle.hdlc.specs.Reader.{decided, maxGathered, fresh, Assembling, assembling, afterOctet, run}
+use Rattle.hdlc.specs.Fate.{decided}
+use Rattle.hdlc.specs.Reader.{maxGathered, fresh, Assembling, assembling, afterOctet, run}
 use Rattle.hdlc.specs.Rules.{Rules, rules}
 use Rattle.hdlc.specs.Wire.{gathered, pieceFateAt, grown, call}
 use Rattle.hdlc.specs.States.{readerAfter, holding, openPiece, closedForm}

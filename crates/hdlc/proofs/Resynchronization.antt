@@ -3,28 +3,27 @@
 -- are 10 and fate 6 where not, with that body at the front of the buffer.
 use mathlib.Core.Bool.{true, false, cond}
 use mathlib.Core.Path.{_≡_, refl, sym, ap, _∙_}
-use mathlib.Core.List.{List, [], _∷_, _++_, append-nil, append-assoc}
+use mathlib.Core.List.{List, [], _∷_, _++_}
 use Prim.Native.Nat.{ℕ, suc, _+_, _≤_}
 use native.Mathlib.Omega.{arith}
 use lib.ListN.{length, drop, drop-of-length-le}
 use lib.Seq.{drop-length}
 use Rattle.octets.specs.Body.{Body}
 use Rattle.octets.specs.Octets.{Octets}
-use Rattle.octets.specs.LittleEndian.{leOctets}
 use Rattle.octets.proofs.LawsTests.{by-test}
-use Rattle.frame.specs.Fcs.{fcs}
 use Rattle.frame.specs.Kind.{isFlag}
 use Rattle.frame.specs.Frame.{withCheck, frame}
 use Rattle.hdlc.specs.declared.reader.Reader.{Reader}
-use Rattle.hdlc.specs.Reader.{decided, headed, maxGathered, fresh, Assembling, assembling, afterOctet, flagFate, fateAt, Outcome, outcome, later, run}
-use Rattle.hdlc.specs.Wire.{Fated, fated}
+use Rattle.hdlc.specs.Fate.{Fated, decided, given, later}
+use Rattle.hdlc.specs.Reader.{headed, maxGathered, fresh, Assembling, assembling, afterOctet, flagFate, fateAt, Outcome, run}
+use Rattle.hdlc.specs.States.{frameRead}
 use Rattle.hdlc.specs.Histories.{callsTell, callsLeave, offers, offered}
-use Rattle.hdlc.proofs.LawsFates.{headed-decided, told-headed}
+use Rattle.hdlc.proofs.LawsFates.{headed-decided}
 use Rattle.hdlc.proofs.RoundTrip.{round-trip}
 
 -- what 7E and a body's frame give
 pub record Resynchronized (r : Reader) (a body : List ℕ) : Type 0 where
-  pub tells : callsTell (assembling r a) (offered (assembling r a) (0x7e ∷ frame body)) ≡ fated (flagFate (assembling r a)) a ++ fated (headed body) body
+  pub tells : callsTell (assembling r a) (offered (assembling r a) (0x7e ∷ frame body)) ≡ given (flagFate (assembling r a)) ++ (headed body ∷ [])
   pub leaves : callsLeave (assembling r a) (offered (assembling r a) (0x7e ∷ frame body)) ≡ assembling fresh (withCheck body ++ drop (length body + 2) a)
 
 -- ---- calls by their outcomes
@@ -36,65 +35,61 @@ record Calls (h : Assembling) (xss : List (List ℕ)) (vs : List Fated) (h′ : 
 
 -- what a call with a fate left unread is offered again
 offers-on : {h h′ : Assembling} {o : Outcome} {vs : List Fated} (n : ℕ) (xs : List ℕ) → run h xs ≡ o → decided (o .fate) ≡ true
-    → Calls (o .state) (offers n (o .state) (drop (o .read) xs)) vs h′ → Calls h (offers (suc n) h xs) (fated (o .fate) (o .state .assembly) ++ vs) h′
+    → Calls (o .state) (offers n (o .state) (drop (o .read) xs)) vs h′ → Calls h (offers (suc n) h xs) (given (o .fate) ++ vs) h′
 unfolding callsTell callsLeave offers
 offers-on {o = o} n xs is t rest =
     let again : Outcome → List (List ℕ) = λ z. cond (decided (z .fate)) (offers n (z .state) (drop (z .read) xs)) [] in
     let go-on : again o ≡ offers n (o .state) (drop (o .read) xs) = simp t in
     record {
       tells =
-          ap (λ z. fated (z .fate) (z .state .assembly) ++ callsTell (z .state) (again z)) is
-          ∙ ap (λ l. fated (o .fate) (o .state .assembly) ++ l) (ap (callsTell (o .state)) go-on ∙ rest .tells);
+          ap (λ z. given (z .fate) ++ callsTell (z .state) (again z)) is
+          ∙ ap (λ l. given (o .fate) ++ l) (ap (callsTell (o .state)) go-on ∙ rest .tells);
       leaves = ap (λ z. callsLeave (z .state) (again z)) is ∙ ap (callsLeave (o .state)) go-on ∙ rest .leaves;
     }
 
 -- no octets: nothing is told and nothing changes
 used-up : (n : ℕ) (h : Assembling) (xs : List ℕ) → xs ≡ [] → Calls h (offers (suc n) h xs) [] h
-unfolding callsTell callsLeave offers run fated
+unfolding callsTell callsLeave offers run given
 used-up n h xs none = rw none (record { tells = refl; leaves = refl })
 
 told-as : {h h′ : Assembling} {xss : List (List ℕ)} {vs ws : List Fated} → vs ≡ ws → Calls h xss vs h′ → Calls h xss ws h′
 told-as e c = record { tells = c .tells ∙ e; leaves = c .leaves }
 
 module _ (r : Reader) (a body : List ℕ) (room : maxGathered ≤ length a) (size : Body body) (octets : Octets body) where
-  -- the frame as a fresh reader reads it
-  read-frame : Outcome
-  read-frame = outcome (headed body) (length (frame body)) fresh (withCheck body ++ drop (length body + 2) a)
-
-  told-frame : fated (headed body) (withCheck body ++ drop (length body + 2) a) ≡ fated (headed body) body
-  unfolding withCheck
-  told-frame = ap (fated (headed body)) (append-assoc body (leOctets 2 (fcs body)) (drop (length body + 2) a)) ∙ told-headed body _
-
   -- what was open has a fate: the flag ends a call
-  decided-first : decided (flagFate (assembling r a)) ≡ true → run (assembling r a) (0x7e ∷ frame body) ≡ outcome (flagFate (assembling r a)) 1 fresh a
+  decided-first : decided (flagFate (assembling r a)) ≡ true
+      → run (assembling r a) (0x7e ∷ frame body) ≡ record { fate = flagFate (assembling r a); read = 1; state = assembling fresh a }
   unfolding run fateAt afterOctet isFlag
   decided-first t = simp t
 
   -- it has none: the call goes on
-  undecided-first : decided (flagFate (assembling r a)) ≡ false → run (assembling r a) (0x7e ∷ frame body) ≡ later 1 read-frame
-  unfolding run fateAt afterOctet isFlag read-frame
+  undecided-first : decided (flagFate (assembling r a)) ≡ false → run (assembling r a) (0x7e ∷ frame body) ≡ later 1 (frameRead body a)
+  unfolding run fateAt afterOctet isFlag
   undecided-first t = simp t (ap (later 1) (round-trip body size octets a room))
 
-  untold : decided (flagFate (assembling r a)) ≡ false → fated (flagFate (assembling r a)) a ≡ []
-  unfolding fated
+  -- what a call with the frame's fate tells, and nothing after it
+  told-frame : given (headed body) ++ [] ≡ headed body ∷ []
+  unfolding given
+  told-frame = simp (headed-decided body)
+
+  untold : decided (flagFate (assembling r a)) ≡ false → given (flagFate (assembling r a)) ≡ []
+  unfolding given
   untold t = simp t
 
   -- a frame is read by one call, and the next has nothing to read
-  frame-calls : (n : ℕ) → Calls (assembling fresh a) (offers (suc (suc n)) (assembling fresh a) (frame body)) (fated (headed body) body) (read-frame .state)
-  unfolding read-frame
+  frame-calls : (n : ℕ) → Calls (assembling fresh a) (offers (suc (suc n)) (assembling fresh a) (frame body)) (headed body ∷ []) (frameRead body a .state)
   frame-calls n =
-      told-as (append-nil _ ∙ told-frame)
+      told-as told-frame
       (offers-on (suc n) (frame body) (round-trip body size octets a room) (headed-decided body) (used-up n _ _ (drop-length (frame body))))
 
-  calls : Calls (assembling r a) (offered (assembling r a) (0x7e ∷ frame body)) (fated (flagFate (assembling r a)) a ++ fated (headed body) body) (read-frame .state)
-  unfolding offered frame fated read-frame
+  calls : Calls (assembling r a) (offered (assembling r a) (0x7e ∷ frame body)) (given (flagFate (assembling r a)) ++ (headed body ∷ [])) (frameRead body a .state)
+  unfolding offered frame
   calls =
       by-test (decided (flagFate (assembling r a))) (λ t. offers-on _ (0x7e ∷ frame body) (decided-first t) t (frame-calls _))
       (λ t.
-      told-as (append-nil _ ∙ told-frame ∙ sym (ap (λ l. l ++ fated (headed body) body) (untold t)))
+      told-as (told-frame ∙ sym (ap (λ l. l ++ (headed body ∷ [])) (untold t)))
       (offers-on _ (0x7e ∷ frame body) (undecided-first t) (headed-decided body)
       (used-up _ _ _ (drop-of-length-le (0x7e ∷ frame body) {i = 1 + length (frame body)} (omega arith)))))
 
   pub resynchronizes : Resynchronized r a body
-  unfolding read-frame
   resynchronizes = record { tells = calls .tells; leaves = calls .leaves }

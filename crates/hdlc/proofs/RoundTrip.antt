@@ -18,10 +18,11 @@ use Rattle.frame.specs.Kind.{isFlag}
 use Rattle.frame.specs.Frame.{stuffed, withCheck, frame}
 use Rattle.frame.proofs.LawsFcs.{fcs-bound}
 use Rattle.frame.proofs.LawsFrame.{checked-length}
-use Rattle.hdlc.specs.Reader.{later, bodyOf, checkOf, frameFate, headed, maxGathered, fresh, assembling, outcome, run}
-use Rattle.hdlc.specs.Wire.{kept, gathered, cutEscape, pieceFate, grown, finished, unfinished, fated, fatesOf, pieceFateAt, call, callReads}
-use Rattle.hdlc.specs.States.{readerAfter, over, holding, closedForm}
-use Rattle.hdlc.proofs.LawsFates.{headed-decided, told-headed}
+use Rattle.hdlc.specs.Fate.{given, later}
+use Rattle.hdlc.specs.Reader.{bodyOf, checkOf, frameFate, headed, maxGathered, fresh, assembling, run}
+use Rattle.hdlc.specs.Wire.{kept, gathered, cutEscape, pieceFate, grown, finished, unfinished, fatesOf, pieceFateAt, call, callReads}
+use Rattle.hdlc.specs.States.{readerAfter, over, holding, closedForm, frameRead}
+use Rattle.hdlc.proofs.LawsFates.{headed-decided, content-fate}
 use Rattle.hdlc.proofs.LawsStuffing.{stuffed-gives, stuffed-passed}
 use Rattle.hdlc.proofs.LawsStates.{over-few}
 use Rattle.hdlc.proofs.ClosedForm.{call-closed}
@@ -63,7 +64,7 @@ module _ (body : List ℕ) (size : Body body) (octets : Octets body) where
         le-ltb maxGathered (length (withCheck body)) (omega (arith, checked-length body, size .1)),
         ne-eqb (length (withCheck body)) 0 (λ e. omega (arith, checked-length body)),
       )
-      checked-fate
+      (sym (content-fate (withCheck body)) ∙ checked-fate)
 
   last-flag : call (stuffed (withCheck body)) (0x7e ∷ []) ≡ record { fate = headed body; read = 1; state = stuffed (withCheck body) }
   unfolding call pieceFateAt isFlag
@@ -86,12 +87,11 @@ module _ (body : List ℕ) (size : Body body) (octets : Octets body) where
 
   closed-frame : (a : List ℕ)
       → closedForm (record { fate = headed body; read = length (frame body); state = stuffed (withCheck body) }) a
-      ≡ outcome (headed body) (length (frame body)) fresh (withCheck body ++ drop (length body + 2) a)
+      ≡ frameRead body a
   unfolding closedForm
   closed-frame a = rw (headed-decided body, filled a)
 
-  pub round-trip : (a : List ℕ) → maxGathered ≤ length a
-      → run (assembling fresh a) (frame body) ≡ outcome (headed body) (length (frame body)) fresh (withCheck body ++ drop (length body + 2) a)
+  pub round-trip : (a : List ℕ) → maxGathered ≤ length a → run (assembling fresh a) (frame body) ≡ frameRead body a
   unfolding holding readerAfter over gathered cutEscape kept
   round-trip a room = call-closed (frame body) [] a room ∙ ap (λ c. closedForm c a) frame-call ∙ closed-frame a
 
@@ -101,9 +101,9 @@ module _ (body : List ℕ) (size : Body body) (octets : Octets body) where
   unfolding callReads
   frame-reads = rw (frame-call, take-length)
 
-  pub frame-told : fatesOf (finished [] (frame body)) ≡ fated (headed body) body
-  unfolding withCheck
-  frame-told = (rw (frame-reads, frame-call, stuffed-gives (withCheck body) .0) at (reads (frame body) [] .tells)) ∙ told-headed body _
+  pub frame-told : fatesOf (finished [] (frame body)) ≡ headed body ∷ []
+  unfolding given
+  frame-told = rw (frame-reads, frame-call, headed-decided body) at (reads (frame body) [] .tells)
 
   pub frame-leaves : unfinished [] (frame body) ≡ []
   frame-leaves = rw (frame-reads, frame-call, headed-decided body) at (reads (frame body) [] .leaves)

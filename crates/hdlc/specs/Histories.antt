@@ -4,12 +4,12 @@ use mathlib.Core.List.{List, [], _∷_, foldl}
 use Prim.Native.Nat.{ℕ, zero, suc}
 use lib.ListN.{length, drop}
 use Rattle.octets.specs.Runs.{emitted}
-use Rattle.hdlc.specs.Reader.{decided, Assembling, run}
-use Rattle.hdlc.specs.Wire.{Fated, fated}
+use Rattle.hdlc.specs.Fate.{Fated, decided, given}
+use Rattle.hdlc.specs.Reader.{Assembling, run}
 
 -- each call is lent what the last one left: what they tell, and what the last one leaves
 unfoldable pub callsTell : Assembling → List (List ℕ) → List Fated
-callsTell h xss = emitted (λ s xs. fated (run s xs .fate) (run s xs .state .assembly)) (λ s xs. run s xs .state) h xss
+callsTell h xss = emitted (λ s xs. given (run s xs .fate)) (λ s xs. run s xs .state) h xss
 
 unfoldable pub callsLeave : Assembling → List (List ℕ) → Assembling
 callsLeave h xss = foldl (λ s xs. run s xs .state) h xss

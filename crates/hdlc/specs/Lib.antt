@@ -1,3 +1,4 @@
+pub mod Fate
 pub mod Reader
 pub mod Rules
 pub mod Wire

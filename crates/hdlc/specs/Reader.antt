@@ -3,37 +3,17 @@ use mathlib.Core.Bool.{Bool, true, false, cond}
 use mathlib.Core.List.{List, [], _∷_}
 use Prim.Native.Nat.{ℕ, _+_, _-_, _/_}
 use lib.Dec.{ltb, eqb}
-use lib.ListN.{length, take, getD, set}
+use lib.ListN.{length, take, set}
 use lib.Bits.{bitXor}
-use Rattle.octets.specs.Body.{maxBody}
+use Rattle.octets.specs.Body.{maxBody, headerOf}
 use Rattle.octets.specs.LittleEndian.{leAt}
 use Rattle.frame.specs.Kind.{isFlag, isEscape, isSkipped}
 use Rattle.frame.specs.Fcs.{fcs}
 use Rattle.hdlc.specs.declared.reader.Fate.{Fate}
-use Rattle.hdlc.specs.declared.reader.Fate.the-variants.{Unfinished, Checked, Short, WrongCheck, TooLong, CutEscape, BadHeader}
 use Rattle.hdlc.specs.declared.reader.Reader.{Reader}
+use Rattle.hdlc.specs.Fate.{Fated, checked, unchecked, decided, fated, Read, later}
 
--- ---- fates
-
--- 01's number of a fate
-abbrev pub fateNumber : Fate → ℕ
-fateNumber Unfinished = 0
-fateNumber (Checked n) = 1
-fateNumber Short = 2
-fateNumber WrongCheck = 3
-fateNumber TooLong = 4
-fateNumber CutEscape = 5
-fateNumber BadHeader = 6
-
--- whether a frame has its fate
-abbrev pub decided : Fate → Bool
-decided Unfinished = false
-decided (Checked n) = true
-decided Short = true
-decided WrongCheck = true
-decided TooLong = true
-decided CutEscape = true
-decided BadHeader = true
+-- ---- the fate of gathered octets
 
 -- of gathered octets, the body and the check that was sent after it
 unfoldable pub bodyOf : List ℕ → List ℕ
@@ -43,12 +23,12 @@ unfoldable pub checkOf : List ℕ → ℕ
 checkOf g = leAt g (length g - 2) 2
 
 -- the fate of a body whose check is right: 6, else 1
-unfoldable pub headed : List ℕ → Fate
-headed body = cond (eqb (getD body 0 0 / 64) 2) (Checked (length body)) BadHeader
+unfoldable pub headed : List ℕ → Fated
+headed body = cond (eqb (headerOf body / 64) 2) (checked body) (unchecked 6)
 
 -- the fate of gathered octets: 2, 3 and 6 in this order, else 1
-unfoldable pub frameFate : List ℕ → Fate
-frameFate g = cond (ltb (length g) 4) Short (cond (eqb (checkOf g) (fcs (bodyOf g))) (headed (bodyOf g)) WrongCheck)
+unfoldable pub frameFate : List ℕ → Fated
+frameFate g = cond (ltb (length g) 4) (unchecked 2) (cond (eqb (checkOf g) (fcs (bodyOf g))) (headed (bodyOf g)) (unchecked 3))
 
 -- ---- states
 
@@ -97,37 +77,27 @@ unfoldable pub afterOctet : Assembling → ℕ → Assembling
 afterOctet h b = cond (isFlag b) (assembling fresh (h .assembly)) (cond (isSkipped b) h (afterContent h (isEscape b) b))
 
 -- at a flag: fates 4 and 5, then none where nothing is gathered ("is no frame and has no fate"), then 2, 3, 6 and 1
-unfoldable pub flagFate : Assembling → Fate
+unfoldable pub flagFate : Assembling → Fated
 flagFate h =
-    cond (h .reader .discarding) TooLong
-    (cond (h .reader .escaped) CutEscape
-    (cond (eqb (h .reader .count) 0) Unfinished (frameFate (take (h .reader .count) (h .assembly)))))
+    cond (h .reader .discarding) (unchecked 4)
+    (cond (h .reader .escaped) (unchecked 5)
+    (cond (eqb (h .reader .count) 0) (unchecked 0) (frameFate (take (h .reader .count) (h .assembly)))))
 
 -- only a flag decides a fate
-unfoldable pub fateAt : Assembling → ℕ → Fate
-fateAt h b = cond (isFlag b) (flagFate h) Unfinished
+unfoldable pub fateAt : Assembling → ℕ → Fated
+fateAt h b = cond (isFlag b) (flagFate h) (unchecked 0)
 
 -- ---- a call
 
--- its fate, how many octets it read, and the state in which it ends
-pub record Read (S : Type 0) : Type 0 where
-  pub fate : Fate
-  pub read : ℕ
-  pub state : S
-
--- the same n octets later
-abbrev pub later : {S : Type 0} → ℕ → Read S → Read S
-later n o = record { fate = o .fate; read = n + o .read; state = o .state }
-
--- the reader's: what it leaves, the assembly buffer with it
+-- it ends with the reader and the assembly buffer; what the code gives, as that
 abbrev pub Outcome : Type 0
 Outcome = Read Assembling
 
 abbrev pub outcome : Fate → ℕ → Reader → List ℕ → Outcome
-outcome f n r a = record { fate = f; read = n; state = assembling r a }
+outcome f n r a = record { fate = fated f a; read = n; state = assembling r a }
 
 -- "One call reads lent input until the first frame has its fate, or the input ends"; the flag is read too
 unfoldable pub run : Assembling → List ℕ → Outcome
-run h [] = record { fate = Unfinished; read = 0; state = h }
+run h [] = record { fate = unchecked 0; read = 0; state = h }
 run h (b ∷ bs) =
     cond (decided (fateAt h b)) (record { fate = fateAt h b; read = 1; state = afterOctet h b }) (later 1 (run (afterOctet h b) bs))

@@ -1,12 +1,13 @@
 -- What the reader holds, told by the octets of a piece.
 use mathlib.Core.Bool.{cond}
 use mathlib.Core.List.{List, [], _∷_, _++_}
-use Prim.Native.Nat.{ℕ}
+use Prim.Native.Nat.{ℕ, _+_}
 use lib.Dec.{ltb}
 use lib.ListN.{length, take, drop}
-use Rattle.frame.specs.Frame.{stuffed}
+use Rattle.frame.specs.Frame.{stuffed, withCheck, frame}
 use Rattle.hdlc.specs.declared.reader.Reader.{Reader}
-use Rattle.hdlc.specs.Reader.{maxGathered, decided, gathering, overlong, fresh, Assembling, assembling, Outcome, outcome}
+use Rattle.hdlc.specs.Fate.{decided}
+use Rattle.hdlc.specs.Reader.{headed, maxGathered, gathering, overlong, fresh, Assembling, assembling, Outcome}
 use Rattle.hdlc.specs.Wire.{gathered, cutEscape, Call}
 
 unfoldable pub readerAfter : List ℕ → Reader
@@ -29,4 +30,15 @@ openPiece r a =
 -- ---- a call in closed form, over the assembly buffer that it was lent
 
 unfoldable pub closedForm : Call → List ℕ → Outcome
-closedForm c a = outcome (c .fate) (c .read) (cond (decided (c .fate)) fresh (readerAfter (c .state))) (over (gathered (c .state)) a)
+closedForm c a =
+    record {
+      fate = c .fate;
+      read = c .read;
+      state = assembling (cond (decided (c .fate)) fresh (readerAfter (c .state))) (over (gathered (c .state)) a);
+    }
+
+-- what the call gives that reads the frame of a body: fate 1 or, by the header, 6; the reader is fresh again, and body and check stand at the
+-- front of the buffer
+abbrev pub frameRead : List ℕ → List ℕ → Outcome
+frameRead body a =
+    record { fate = headed body; read = length (frame body); state = assembling fresh (withCheck body ++ drop (length body + 2) a) }

@@ -1,15 +1,17 @@
 -- What was received, told by its octets alone (01, Whole histories).
-use mathlib.Core.Bool.{Bool, true, false, cond}
+use mathlib.Core.Bool.{Bool, true, false, cond, not}
 use mathlib.Core.List.{List, [], _∷_, _++_, foldl}
-use Prim.Native.Nat.{ℕ}
+use mathlib.Core.Path.{_≡_}
+use Prim.Native.Nat.{ℕ, _/_}
 use lib.Dec.{ltb, eqb}
 use lib.ListN.{length, take}
 use lib.Bits.{bitXor}
+use Rattle.octets.specs.Body.{headerOf, SpinelBody}
 use Rattle.octets.specs.Runs.{each, emitted}
+use Rattle.frame.specs.Fcs.{fcs}
 use Rattle.frame.specs.Kind.{isFlag, isEscape, isSkipped}
-use Rattle.hdlc.specs.declared.reader.Fate.{Fate}
-use Rattle.hdlc.specs.declared.reader.Fate.the-variants.{Unfinished, Checked, Short, WrongCheck, TooLong, CutEscape, BadHeader}
-use Rattle.hdlc.specs.Reader.{maxGathered, fateNumber, decided, frameFate, Read, later}
+use Rattle.hdlc.specs.Fate.{Fated, checked, unchecked, decided, given, Read, later}
+use Rattle.hdlc.specs.Reader.{maxGathered, bodyOf, checkOf}
 
 -- ---- one piece: the octets between two flags
 
@@ -33,11 +35,26 @@ gathered p = emitted meant pends false (kept p)
 unfoldable pub cutEscape : List ℕ → Bool
 cutEscape p = foldl pends false (kept p)
 
--- "Fates are tried in the order 4, 5, 2, 3, 6"; an empty piece has none
-unfoldable pub pieceFate : List ℕ → Fate
+-- the last three fates, by the octets that a piece stands for; "its body is all but the last two octets"
+unfoldable pub contentFate : List ℕ → Fated
+contentFate g =
+    cond (ltb (length g) 4) (unchecked 2)
+    (cond (not (eqb (checkOf g) (fcs (bodyOf g)))) (unchecked 3)
+    (cond (not (eqb (headerOf g / 64) 2)) (unchecked 6) (checked (bodyOf g))))
+
+-- "Fates are tried in the order 4, 5, 2, 3, 6"; an empty piece has none, and one "then not empty that meets none of fates 2 to 6 is a
+-- checked frame"
+unfoldable pub pieceFate : List ℕ → Fated
 pieceFate p =
-    cond (ltb maxGathered (length (gathered p))) TooLong
-    (cond (cutEscape p) CutEscape (cond (eqb (length (gathered p)) 0) Unfinished (frameFate (gathered p))))
+    cond (ltb maxGathered (length (gathered p))) (unchecked 4)
+    (cond (cutEscape p) (unchecked 5) (cond (eqb (length (gathered p)) 0) (unchecked 0) (contentFate (gathered p))))
+
+-- what makes a piece a checked frame with this body (proofs/CheckedBodies.antt)
+pub record CheckedPiece (p body : List ℕ) : Type 0 where
+  pub whole : cutEscape p ≡ false
+  pub first : bodyOf (gathered p) ≡ body
+  pub check : checkOf (gathered p) ≡ fcs body
+  pub bounds : SpinelBody body
 
 -- ---- the wire: "Cut this at the flags; what follows the last is unfinished"
 
@@ -57,26 +74,8 @@ unfinished p xs = foldl grown p xs
 
 -- ---- the fates of pieces
 
--- 01's number of a fate and, of a checked frame, its body; the gathered octets stand first in the list
-pub record Fated : Type 0 where
-  pub number : ℕ
-  pub body : List ℕ
-
-abbrev pub bodyIn : Fate → List ℕ → List ℕ
-bodyIn Unfinished xs = []
-bodyIn (Checked n) xs = take n xs
-bodyIn Short xs = []
-bodyIn WrongCheck xs = []
-bodyIn TooLong xs = []
-bodyIn CutEscape xs = []
-bodyIn BadHeader xs = []
-
--- none where there is no fate
-unfoldable pub fated : Fate → List ℕ → List Fated
-fated f xs = cond (decided f) (record { number = fateNumber f; body = bodyIn f xs } ∷ []) []
-
 unfoldable pub fatesOf : List (List ℕ) → List Fated
-fatesOf ps = each (λ p. fated (pieceFate p) (gathered p)) ps
+fatesOf ps = each (λ p. given (pieceFate p)) ps
 
 -- ---- a call reads "its input to the first flag with a fate, that flag included, else all"
 
@@ -85,11 +84,11 @@ abbrev pub Call : Type 0
 Call = Read (List ℕ)
 
 -- the fate that an octet gives to the piece before it
-unfoldable pub pieceFateAt : List ℕ → ℕ → Fate
-pieceFateAt p b = cond (isFlag b) (pieceFate p) Unfinished
+unfoldable pub pieceFateAt : List ℕ → ℕ → Fated
+pieceFateAt p b = cond (isFlag b) (pieceFate p) (unchecked 0)
 
 unfoldable pub call : List ℕ → List ℕ → Call
-call p [] = record { fate = Unfinished; read = 0; state = p }
+call p [] = record { fate = unchecked 0; read = 0; state = p }
 call p (b ∷ bs) = cond (decided (pieceFateAt p b)) (record { fate = pieceFateAt p b; read = 1; state = p }) (later 1 (call (grown p b) bs))
 
 -- the octets that it read

@@ -7,7 +7,8 @@ ghost use mathlib.Core.Bool.{Bool, true};
 ghost use mathlib.Core.Path.{_≡_};
 ghost use Prim.Native.Nat.{_≤_};
 ghost use lib.ListN.{length};
-ghost use Rattle.hdlc.specs.Reader.{fateNumber, maxGathered, gathering, fresh, assembling, outcome, frameFate, flagFate, gather, afterContent, afterOctet, fateAt, decided, run};
+ghost use Rattle.hdlc.specs.Fate.{fateNumber, fated};
+ghost use Rattle.hdlc.specs.Reader.{maxGathered, gathering, fresh, assembling, outcome, frameFate, flagFate, gather, afterContent, afterOctet, fateAt, run};
 ghost use Rattle.hdlc.specs.Rules.{rules};
 
 // What became of a frame, with 01's number of each fate.
@@ -110,7 +111,7 @@ impl Reader {
 
 // The fate of gathered octets that are not too many and not cut in an escape.
 fn frame_fate(gathered: &[u8]) -> Fate
-    ensures { λ r. ⌜ r ≡ frameFate (now (gathered .entry)) ⌝ }
+    ensures { λ r. ⌜ fated r (now (gathered .entry)) ≡ frameFate (now (gathered .entry)) ⌝ }
 {
     let count = gathered.len();
     if count < 4 {
@@ -129,7 +130,7 @@ fn frame_fate(gathered: &[u8]) -> Fate
 // The fate that a flag gives, `Unfinished` where no frame ends.
 fn flag_fate(reader: Reader, assembly: &[u8]) -> Fate
     requires { ⌜ reader .count ≤ length (now assembly) ⌝ }
-    ensures { λ r. ⌜ r ≡ flagFate (assembling reader (now (assembly .entry))) ⌝ }
+    ensures { λ r. ⌜ fated r (now (assembly .entry)) ≡ flagFate (assembling reader (now (assembly .entry))) ⌝ }
 {
     if reader.discarding {
         return Fate::TooLong;
@@ -182,7 +183,7 @@ fn take_content(reader: Reader, escape: bool, octet: u8, assembly: &mut [u8]) ->
 fn read_octet(reader: Reader, octet: u8, assembly: &mut [u8]) -> Step
     requires { ⌜ (reader .count ≤ maxGathered) × (maxGathered ≤ length (now assembly)) ⌝ }
     ensures { λ s.
-        ⌜ (s .fate ≡ fateAt (assembling reader (now (assembly .entry))) octet)
+        ⌜ (fated (s .fate) (now (assembly .exit)) ≡ fateAt (assembling reader (now (assembly .entry))) octet)
         × (assembling (s .reader) (now (assembly .exit)) ≡ afterOctet (assembling reader (now (assembly .entry))) octet) ⌝ }
 {
     let kind = kind_of(octet);
@@ -217,16 +218,6 @@ fn read_octet(reader: Reader, octet: u8, assembly: &mut [u8]) -> Step
     }
 }
 
-fn decides(fate: Fate) -> bool
-    ensures { λ r. ⌜ r ≡ decided fate ⌝ }
-{
-    if let Fate::Unfinished = fate {
-        false
-    } else {
-        true
-    }
-}
-
 // Reads the input until the first frame has its fate, or the input ends.
 pub fn read_frame(reader: Reader, input: &[u8], assembly: &mut [u8]) -> Reading
     requires { ⌜ (rules reader ≡ true) × (maxGathered ≤ length (now assembly)) ⌝ }
@@ -248,7 +239,7 @@ pub fn read_frame(reader: Reader, input: &[u8], assembly: &mut [u8]) -> Reading
         at += 1;
         reader = s.reader;
         let fate = s.fate;
-        if decides(fate) {
+        if fate.number() != 0 {
             break Reading {
                 fate,
                 read: at,

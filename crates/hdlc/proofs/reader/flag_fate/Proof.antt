@@ -5,6 +5,7 @@ use borrow.Author.Tests.{eq-eqb, ne-eqb}
 use borrow.Author.Needs.{needs}
 use lib.Seq.{length-take-le}
 use Rattle.hdlc.specs.Reader.{flagFate}
+use Rattle.hdlc.proofs.LawsFates.{fated-front}
 use Rattle.hdlc.proofs.reader.flag_fate.Statement.{statement}
 use Rattle.hdlc.proofs.reader.flag_fate.Tie as tie
 
@@ -30,7 +31,9 @@ returns-4 : tie.Need-returns-4
 unfolding flagFate
 returns-4 c =
     let t = c .before .before in
-    c .frame-fate .ensures ∙ rw (t .before .before .if1 .left, t .before .if2 .left, ne-eqb _ _ (t .if3 .left))
+    let args = t .before .before .before .before .args in
+    rw (t .before .before .if1 .left, t .before .if2 .left, ne-eqb _ _ (t .if3 .left))
+    (fated-front (c .frame-fate .result) (args .reader .count) (args .assembly .now) (c .frame-fate .ensures))
 
 pub flag-fate-spec : {M : Type 1} → statement M
 flag-fate-spec =

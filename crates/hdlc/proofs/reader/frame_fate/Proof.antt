@@ -8,10 +8,11 @@ use borrow.Author.Tests.{eq-eqb, ne-eqb, lt-ltb, le-ltb}
 use lib.Dec.{eqb}
 use lib.ListN.{length, getD}
 use lib.Seq.{length-take-le}
+use Rattle.octets.specs.Body.{headerOf}
 use Rattle.frame.specs.Fcs.{fcs}
-use Rattle.hdlc.specs.declared.reader.Fate.the-variants.{Checked, BadHeader}
-use Rattle.hdlc.specs.Reader.{bodyOf, checkOf, frameFate}
-use Rattle.hdlc.proofs.LawsFates.{headed-gathered}
+use Rattle.hdlc.specs.Fate.{checked, unchecked}
+use Rattle.hdlc.specs.Reader.{bodyOf, checkOf, headed, frameFate}
+use Rattle.hdlc.proofs.LawsFates.{header-gathered}
 use Rattle.hdlc.proofs.reader.frame_fate.Statement.{statement}
 use Rattle.hdlc.proofs.reader.frame_fate.Tie as tie
 
@@ -52,12 +53,12 @@ returns-2 c =
 
 -- where the check is right, the header decides
 right-check : (c : tie.Else2) → let g = c .before .before .before .before .before .before .args .gathered .now in
-    frameFate g ≡ cond (eqb (getD g 0 0 / 64) 2) (Checked (length g - 2)) BadHeader
-unfolding frameFate
+    frameFate g ≡ cond (eqb (headerOf g / 64) 2) (checked (bodyOf g)) (unchecked 6)
+unfolding frameFate headed
 right-check c =
     let known = c .before in
     let long = known .before .before .before .if1 .left in
-    rw (le-ltb _ _ long, same-test known, eq-eqb _ _ (c .if2 .left)) (headed-gathered _ long)
+    rw (le-ltb _ _ long, same-test known, eq-eqb _ _ (c .if2 .left), header-gathered _ long)
 
 shared-slice-read-if3 : tie.Need-shared-slice-read-if3
 shared-slice-read-if3 c = search needs
@@ -66,6 +67,7 @@ returns-3 : tie.Need-returns-3
 returns-3 c = sym (right-check (c .before .before) ∙ rw (ne-eqb _ _ (c .if3 .taken)))
 
 returns-4 : tie.Need-returns-4
+unfolding bodyOf
 returns-4 c = sym (right-check (c .before .before) ∙ rw (eq-eqb _ _ (c .if3 .left)))
 
 pub frame-fate-spec : {M : Type 1} → statement M

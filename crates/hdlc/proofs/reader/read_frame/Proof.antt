@@ -1,11 +1,13 @@
 -- The invariant: the outcome of what is left, `at` octets later, is that of the whole, and the reader keeps its rules.
-use mathlib.Core.Bool.{true}
+use mathlib.Core.Bool.{true, not}
 use mathlib.Core.Path.{_≡_, refl, sym, ap, _∙_}
 use Prim.Native.Nat.{_-_, _≤_}
 use native.Mathlib.Omega.{arith}
 use borrow.Author.Needs.{needs}
+use borrow.Author.Tests.{eq-eqb, ne-eqb}
 use lib.ListN.{length, getD, drop}
-use Rattle.hdlc.specs.Reader.{assembling, later, run}
+use Rattle.hdlc.specs.Fate.{later}
+use Rattle.hdlc.specs.Reader.{assembling, run}
 use Rattle.hdlc.specs.Rules.{rules}
 use Rattle.hdlc.proofs.LawsReading.{later-zero, run-end, run-next, run-decided}
 use Rattle.hdlc.proofs.ReaderRules.{rules-told, after-rules}
@@ -32,8 +34,8 @@ read-octet-requires c κs = let w = c .before .before .before .loop in (rules-to
 add-at : tie.Need-add-at Inv-loop μ-loop
 add-at c = omega arith
 
-decides-requires : tie.Need-decides-requires Inv-loop μ-loop
-decides-requires c κs = search needs
+number-requires : tie.Need-number-requires Inv-loop μ-loop
+number-requires c κs = search needs
 
 loop-less : tie.Need-loop-less Inv-loop μ-loop
 loop-less c = omega arith
@@ -48,7 +50,7 @@ loop-again c =
       omega arith,
       step .kept .1 .1 .0 ∙ w .inv .1,
       ap (λ g. rules (g .reader)) (step .ensures .1) ∙ after-rules h (getD input (w .at) 0) (omega arith) (w .inv .2),
-      sym (run-next h input (w .at) (omega arith) (step .ensures .0) (step .ensures .1) (sym (c .before .decides .ensures) ∙ c .if2 .left))
+      sym (run-next h input (w .at) (omega arith) (step .ensures .0) (step .ensures .1) (ap not (eq-eqb _ _ (sym (c .before .number .ensures) ∙ c .if2 .left))))
           ∙ w .inv .3,
     )
 
@@ -73,7 +75,7 @@ returns-2 c =
     let input = at-loop .before .before .before .args .input .now in
     sym
     (run-decided (assembling (w .reader) (w .assembly)) input (w .at) (omega arith) (step .ensures .0) (step .ensures .1)
-    (sym (c .before .decides .ensures) ∙ c .if2 .taken))
+    (ap not (ne-eqb _ _ (λ e. c .if2 .taken (c .before .number .ensures ∙ e)))))
     ∙ w .inv .3
 
 pub read-frame-spec : {M : Type 1} → statement M
@@ -86,7 +88,7 @@ read-frame-spec =
     shared-slice-read-read-octet
     read-octet-requires
     add-at
-    decides-requires
+    number-requires
     loop-less
     loop-again
     same-length
