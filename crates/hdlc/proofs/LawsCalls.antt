@@ -1,6 +1,6 @@
 -- One call, told by the octets that it read.
 use mathlib.Core.Bool.{true, false, cond}
-use mathlib.Core.Logic.{_⊎_, inl, inr}
+use mathlib.Core.Logic.{_⊎_, inl, inr, ⊎-elim}
 use mathlib.Core.Path.{_≡_, refl, sym, ap, _∙_}
 use mathlib.Core.List.{List, [], _∷_, _++_, append-nil}
 use Prim.Native.Nat.{ℕ, suc, _≤_}
@@ -14,6 +14,7 @@ use Rattle.hdlc.specs.Fate.{unchecked, decided, given}
 use Rattle.hdlc.specs.Reader.{maxGathered, fresh, Assembling, assembling, run}
 use Rattle.hdlc.specs.Wire.{kept, gathered, cutEscape, pieceFate, ended, grown, finished, unfinished, fatesOf, Call, pieceFateAt, call, callReads}
 use Rattle.hdlc.specs.States.{readerAfter, over, holding, closedForm}
+use Rattle.hdlc.proofs.LawsFates.{by-piece}
 use Rattle.hdlc.proofs.LawsStates.{over-length, decides-flag}
 use Rattle.hdlc.proofs.ClosedForm.{call-closed}
 
@@ -53,6 +54,15 @@ unfolding call pieceFateAt
 call-fate [] p = inl refl
 call-fate (b ∷ bs) p =
     by-test (decided (pieceFateAt p b)) (λ t. simp t (inr (simp (decides-flag p b t)))) (λ t. simp t (call-fate bs (grown p b)))
+
+-- and its number is one of 0 to 6
+pub call-number : (xs p : List ℕ) → call p xs .fate .number ≤ 6
+call-number xs p =
+    ⊎-elim (λ e. rw e (omega arith))
+    (λ e. rw e
+    (by-piece (λ f. f .number ≤ 6) (call p xs .state) (omega arith) (omega arith) (λ _. omega arith) (omega arith) (omega arith) (omega arith)
+    (λ _. omega arith)))
+    (call-fate xs p)
 
 -- ---- what a call leaves
 

@@ -13,19 +13,19 @@ use Rattle.octets.proofs.LawsLists.{drop-next}
 use Rattle.octets.proofs.LawsTests.{chosen}
 use Rattle.hdlc.specs.declared.reader.Fate.{Fate}
 use Rattle.hdlc.specs.declared.reader.Fate.the-variants.{Unfinished, Checked, Short, WrongCheck, TooLong, CutEscape, BadHeader}
-use Rattle.hdlc.specs.Fate.{Fated, unchecked, decided, fateNumber, Read, later}
+use Rattle.hdlc.specs.Fate.{Fated, unchecked, decided, fateNumber, bodyIn, Read, later}
 use Rattle.hdlc.specs.Reader.{Assembling, afterOctet, fateAt, run}
 use Rattle.hdlc.proofs.reader.Fate.{the-type as fate-type}
 
--- the `else` of an `if let` tells that the tag is one of the others: a fate that is not 1
-pub tag-unchecked : (f : Fate) → OneOf (0 ∷ 2 ∷ 3 ∷ 4 ∷ 5 ∷ 6 ∷ []) (tagOf fate-type f) → eqb (fateNumber f) 1 ≡ false
-tag-unchecked Unfinished o = refl
-tag-unchecked (Checked n) o = absurd (miss (0 ∷ 2 ∷ 3 ∷ 4 ∷ 5 ∷ 6 ∷ []) 1 tt o)
-tag-unchecked Short o = refl
-tag-unchecked WrongCheck o = refl
-tag-unchecked TooLong o = refl
-tag-unchecked CutEscape o = refl
-tag-unchecked BadHeader o = refl
+-- the `else` of an `if let` tells that the tag is one of the others: a fate that is not 1 has no body
+pub tag-unchecked : (f : Fate) (a : List ℕ) → OneOf (0 ∷ 2 ∷ 3 ∷ 4 ∷ 5 ∷ 6 ∷ []) (tagOf fate-type f) → (eqb (fateNumber f) 1 ≡ false) × (bodyIn f a ≡ [])
+tag-unchecked Unfinished a o = (refl, refl)
+tag-unchecked (Checked n) a o = absurd (miss (0 ∷ 2 ∷ 3 ∷ 4 ∷ 5 ∷ 6 ∷ []) 1 tt o)
+tag-unchecked Short a o = (refl, refl)
+tag-unchecked WrongCheck a o = (refl, refl)
+tag-unchecked TooLong a o = (refl, refl)
+tag-unchecked CutEscape a o = (refl, refl)
+tag-unchecked BadHeader a o = (refl, refl)
 
 pub later-zero : {S : Type 0} (o : Read S) → later 0 o ≡ o
 later-zero o = λ i. record { fate = o .fate; read = zero-add (o .read) i; state = o .state }

@@ -11,18 +11,16 @@ use lib.Dec.{eqb, ltb}
 use lib.ListN.{length, length-map}
 use Rattle.octets.proofs.LawsTests.{chosen}
 use Rattle.frame.specs.Frame.{frame, stuffed}
-use Rattle.hdlc.specs.declared.reader.Fate.{Fate}
-use Rattle.hdlc.specs.declared.reader.Fate.the-variants.{Unfinished, Checked, Short, WrongCheck, TooLong, CutEscape, BadHeader}
-use Rattle.hdlc.specs.Reader.{fateNumber, maxGathered, fresh}
+use Rattle.hdlc.specs.Reader.{maxGathered, fresh}
 use Rattle.hdlc.specs.States.{openPiece}
-use Rattle.hdlc.specs.Wire.{call}
 use Rattle.hdlc.proofs.ClosedForm.{open-holds}
+use Rattle.hdlc.proofs.LawsCalls.{call-number}
 use Rattle.hdlc.proofs.ReaderRules.{fresh-rules, rules-hold}
 use Rattle.device.specs.declared.state.Device.{Device}
 use Rattle.device.proofs.SetupKeepsRules.{setup-keeps}
 use Rattle.engine.specs.Merged.{repliesTo}
 use Rattle.engine.proofs.LawsRepliesInOrder.{one-each}
-use Rattle.serial.specs.Receiving.{numberOf, minOutput, Result}
+use Rattle.serial.specs.Receiving.{minOutput, Result}
 use Rattle.serial.specs.Histories.{Setup, deviceFrom, ReceivingCall, lentFrom, History, start, endOf, gives, replyIn, repliesIn, readIn, readBy, laid, checkedIn, bodies, Report, reported, callMeans, openAfter, deviceIn}
 use Rattle.serial.proofs.LawsHistories.{Stands, Step, step, Runs, runs}
 
@@ -33,7 +31,7 @@ pub record Faithful (s : Setup) (h : History) : Type 0 where
   pub device : endOf s h .device ≡ deviceIn s h
   pub more : (c : ReceivingCall) → reported (gives (endOf s h) c) ≡ callMeans (h .assembly) (openAfter h) (deviceIn s h) c
   pub at-most-one : (c : ReceivingCall) → length (checkedIn (openAfter h) (readBy (h .assembly) (openAfter h) c)) ≤ 1
-  pub never-11 : (c : ReceivingCall) → numberOf (gives (endOf s h) c .answer) ≢ 11
+  pub never-11 : (c : ReceivingCall) → gives (endOf s h) c .number ≢ 11
 
 -- ---- the start
 
@@ -55,21 +53,12 @@ few-replies r = chosen (λ (l : List (List ℕ)). length l ≤ 1) (eqb (r .writt
 
 -- ---- no call of a history is refused with 11
 
-few : (f : Fate) → fateNumber f ≤ 6
-few Unfinished = omega arith
-few (Checked n) = omega arith
-few Short = omega arith
-few WrongCheck = omega arith
-few TooLong = omega arith
-few CutEscape = omega arith
-few BadHeader = omega arith
-
 never : (a p : List ℕ) (d : Device) (c : ReceivingCall) → callMeans a p d c .number ≢ 11
 unfolding callMeans
 never a p d c =
     chosen (λ (m : Report). m .number ≢ 11) (ltb (length (lentFrom (c .lent) a)) maxGathered) (λ _ e. omega arith)
     (λ _. chosen (λ (m : Report). m .number ≢ 11) (ltb (length (c .output)) minOutput) (λ _ e. omega arith)
-    (λ _ e. omega (arith, few (call p (c .input) .fate))))
+    (λ _ e. omega (arith, call-number (c .input) p)))
 
 module _ (s : Setup) (h : History) where
   all : Runs (h .assembly) [] (start s (h .assembly)) (h .calls)

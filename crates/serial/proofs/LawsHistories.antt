@@ -11,10 +11,11 @@ use Rattle.octets.specs.Runs.{each}
 use Rattle.octets.proofs.LawsRuns.{each-append, emitted-append}
 use Rattle.octets.proofs.LawsTests.{by-test}
 use Rattle.frame.specs.Frame.{frame}
-use Rattle.hdlc.specs.Reader.{fateNumber, maxGathered, assembling, Outcome, run}
+use Rattle.hdlc.specs.Fate.{given}
+use Rattle.hdlc.specs.Reader.{maxGathered, assembling, Outcome, run}
 use Rattle.hdlc.specs.Rules.{rules as readerRules}
 use Rattle.hdlc.specs.States.{closedForm}
-use Rattle.hdlc.specs.Wire.{fated as toldOf, fatesOf, finished, ended, grown, unfinished, call, callReads}
+use Rattle.hdlc.specs.Wire.{fatesOf, finished, ended, grown, unfinished, call, callReads}
 use Rattle.hdlc.proofs.ClosedForm.{call-closed, same-room}
 use Rattle.hdlc.proofs.LawsCalls.{After, after-call, call-tells}
 use Rattle.hdlc.proofs.LawsPieces.{unfinished-append}
@@ -24,11 +25,9 @@ use Rattle.device.specs.Rules.{rules}
 use Rattle.engine.specs.Merged.{deviceAfter, repliesTo}
 use Rattle.engine.proofs.LawsRepliesInOrder.{device-append, replies-append}
 use Rattle.engine.proofs.RulesKept.{bodies-keep}
-use Rattle.serial.specs.declared.receiving.Answer.{Answer}
-use Rattle.serial.specs.declared.receiving.Answer.the-variants.{SmallAssembly, SmallOutput}
-use Rattle.serial.specs.Receiving.{numberOf, minOutput, breaksRules, refused, unrefused, receive}
+use Rattle.serial.specs.Receiving.{minOutput, breaksRules, refused, unrefused, receive}
 use Rattle.serial.specs.Histories.{Lent, own, short, ReceivingCall, State, lentFrom, leftIn, gives, next, replyIn, repliesFrom, readFrom, isRefused, readBy, laidFrom, checkedOf, checkedIn, report, reported, callMeans}
-use Rattle.serial.proofs.LawsReceiving.{unrefused-device, unrefused-reply, unrefused-octets, unrefused-read}
+use Rattle.serial.proofs.LawsReceiving.{unrefused-device, unrefused-reply, unrefused-octets, unrefused-read, frame-some}
 
 -- ---- octets end to end
 
@@ -83,14 +82,14 @@ module _ (a p : List ℕ) (t : State) (c : ReceivingCall) (s : Stands a p t) whe
   size = lent-size (c .lent) (t .assembly) a (s .size)
 
   -- a refused call leaves everything as it was
-  module _ (n : Answer) (g : gives t c ≡ refused n (t .device) (t .reader) (lentFrom (c .lent) (t .assembly)) (c .output)) where
+  module _ (n : ℕ) (g : gives t c ≡ refused n (t .device) (t .reader) (lentFrom (c .lent) (t .assembly)) (c .output)) where
     same : next t c ≡ t
     unfolding next
     same =
         let left = ap (λ q. leftIn (c .lent) (t .assembly) (q .assembly)) g ∙ left-same (c .lent) (t .assembly) in
         λ i. record { device = g i .device; reader = g i .reader; assembly = left i }
 
-    refused-step : isRefused a c ≡ true → callMeans a p (t .device) c ≡ report (numberOf n) 0 [] → Step a p (readBy a p c) t c
+    refused-step : isRefused a c ≡ true → callMeans a p (t .device) c ≡ report n 0 [] → Step a p (readBy a p c) t c
     unfolding readBy checkedIn checkedOf fatesOf finished unfinished repliesTo deviceAfter next replyIn reported
     refused-step e m =
         rw e
@@ -113,9 +112,9 @@ module _ (a p : List ℕ) (t : State) (c : ReceivingCall) (s : Stands a p t) whe
     room : maxGathered ≤ length a
     room = ltb-false _ _ (rw is-own at e)
 
-    answers : gives t c ≡ unrefused (t .device) outcome (c .output)
+    answers : gives t c ≡ unrefused frame (t .device) outcome (c .output)
     unfolding gives receive outcome
-    answers = rw (keeps, size, e, f) (ap (λ l. unrefused (t .device) (run (assembling (t .reader) (lentFrom l (t .assembly))) (c .input)) (c .output)) is-own)
+    answers = rw (keeps, size, e, f) (ap (λ l. unrefused frame (t .device) (run (assembling (t .reader) (lentFrom l (t .assembly))) (c .input)) (c .output)) is-own)
 
     behind : After p (assembling (t .reader) (t .assembly))
     behind = s .holds room
@@ -124,22 +123,22 @@ module _ (a p : List ℕ) (t : State) (c : ReceivingCall) (s : Stands a p t) whe
     unfolding outcome
     is-closed = ap (λ h. run h (c .input)) (behind .state) ∙ call-closed (c .input) p (behind .under) (behind .room)
 
-    found : checkedOf (toldOf (outcome .fate) (outcome .state .assembly)) ≡ checkedIn p (callReads p (c .input))
+    found : checkedOf (given (outcome .fate)) ≡ checkedIn p (callReads p (c .input))
     unfolding outcome checkedIn
     found =
-        ap (λ h. checkedOf (toldOf (run h (c .input) .fate) (run h (c .input) .state .assembly))) (behind .state)
+        ap (λ h. checkedOf (given (run h (c .input) .fate))) (behind .state)
         ∙ ap checkedOf (call-tells p (behind .under) (c .input) (behind .room))
 
     device-next : next t c .device ≡ deviceAfter (t .device) (checkedIn p (callReads p (c .input)))
     unfolding next
-    device-next = ap (λ q. q .device) answers ∙ unrefused-device (t .device) outcome (c .output) found
+    device-next = ap (λ q. q .device) answers ∙ unrefused-device frame (t .device) outcome (c .output) found
 
     state-next : assembling (next t c .reader) (next t c .assembly) ≡ outcome .state
     unfolding next
     state-next =
         ap (λ l. assembling (gives t c .reader) (leftIn l (t .assembly) (gives t c .assembly))) is-own
         ∙ ap (λ q. assembling (q .reader) (q .assembly)) answers
-        ∙ unrefused-read (t .device) outcome (c .output) .2
+        ∙ unrefused-read frame (t .device) outcome (c .output) .2
 
     stands-next : Stands a (unfinished p (callReads p (c .input))) (next t c)
     unfolding outcome
@@ -153,19 +152,16 @@ module _ (a p : List ℕ) (t : State) (c : ReceivingCall) (s : Stands a p t) whe
           holds = λ _. rw (state-next, behind .state) (after-call p (behind .under) (c .input) (behind .room));
         }
 
-    fate-read : numberOf (gives t c .answer) ≡ fateNumber (call p (c .input) .fate)
+    fate-read : gives t c .number ≡ call p (c .input) .fate .number
     unfolding closedForm
-    fate-read =
-        ap (λ r. numberOf (r .answer)) answers
-        ∙ ap numberOf (unrefused-read (t .device) outcome (c .output) .0)
-        ∙ ap (λ o. fateNumber (o .fate)) is-closed
+    fate-read = ap (λ r. r .number) answers ∙ unrefused-read frame (t .device) outcome (c .output) .0 ∙ ap (λ o. o .fate .number) is-closed
 
     count-read : gives t c .read ≡ call p (c .input) .read
     unfolding closedForm
-    count-read = ap (λ r. r .read) answers ∙ unrefused-read (t .device) outcome (c .output) .1 ∙ ap (λ o. o .read) is-closed
+    count-read = ap (λ r. r .read) answers ∙ unrefused-read frame (t .device) outcome (c .output) .1 ∙ ap (λ o. o .read) is-closed
 
     octets-written : take (gives t c .written) (gives t c .output) ≡ each frame (repliesTo (t .device) (checkedIn p (callReads p (c .input))))
-    octets-written = ap (λ r. take (r .written) (r .output)) answers ∙ unrefused-octets (t .device) outcome (c .output) found
+    octets-written = ap (λ r. take (r .written) (r .output)) answers ∙ unrefused-octets frame (t .device) outcome (c .output) found
 
     read-step : Step a p (readBy a p c) t c
     unfolding readBy isRefused callReads reported callMeans
@@ -173,7 +169,7 @@ module _ (a p : List ℕ) (t : State) (c : ReceivingCall) (s : Stands a p t) whe
         rw (e, f)
         (record {
           read = ap (λ n. take n (c .input)) count-read;
-          reply = ap replyIn answers ∙ unrefused-reply (t .device) outcome (c .output) found;
+          reply = ap replyIn answers ∙ unrefused-reply frame (t .device) outcome (c .output) found frame-some;
           device = device-next;
           stands = stands-next;
           reported = rw (e, f) (λ i. record { number = fate-read i; read = count-read i; octets = octets-written i });
@@ -183,9 +179,9 @@ module _ (a p : List ℕ) (t : State) (c : ReceivingCall) (s : Stands a p t) whe
   unfolding isRefused callMeans gives receive
   step =
       by-test (ltb (length (lentFrom (c .lent) a)) maxGathered)
-      (λ e. refused-step SmallAssembly (rw (keeps, size, e)) (rw e) (rw e))
+      (λ e. refused-step 12 (rw (keeps, size, e)) (rw e) (rw e))
       (λ e.
-      by-test (ltb (length (c .output)) minOutput) (λ f. refused-step SmallOutput (rw (keeps, size, e, f)) (rw (e, f)) (rw (e, f))) (read-step e))
+      by-test (ltb (length (c .output)) minOutput) (λ f. refused-step 13 (rw (keeps, size, e, f)) (rw (e, f)) (rw (e, f))) (read-step e))
 
 -- ---- all calls
 

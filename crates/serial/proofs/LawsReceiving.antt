@@ -1,29 +1,30 @@
 -- Laws of one receiving call.
-use mathlib.Core.Path.{_≡_, refl, sym, _∙_}
+use mathlib.Core.Path.{_≡_, refl, sym, ap, _∙_}
 use mathlib.Core.Bool.{true, false, cond}
 use mathlib.Core.List.{List, [], _∷_, map, append-nil}
-use Prim.Native.Nat.{ℕ}
+use Prim.Native.Nat.{ℕ, _≤_, _<_}
 use native.Mathlib.Omega.{arith}
-use borrow.Author.Tests.{not-false, ne-eqb}
+use borrow.Author.Tests.{not-false, eqb-true, ne-eqb}
 use lib.Dec.{eqb}
-use lib.ListN.{length, take}
+use lib.ListN.{length, take, drop, length-append}
 use lib.Seq.{take-append-seam}
+use Rattle.octets.specs.Body.{minBody}
 use Rattle.octets.specs.Runs.{each}
 use Rattle.octets.proofs.LawsTests.{by-test, both-told}
-use Rattle.frame.specs.Frame.{frame, writing}
+use Rattle.frame.specs.Frame.{frame, written, writing}
 use Rattle.frame.proofs.FrameBounds.{frame-bounds}
-use Rattle.hdlc.specs.declared.reader.Fate.{Fate}
-use Rattle.hdlc.specs.declared.reader.Fate.the-variants.{Unfinished, Checked, Short, WrongCheck, TooLong, CutEscape, BadHeader}
 use Rattle.hdlc.specs.declared.reader.Reader.{Reader}
-use Rattle.hdlc.specs.Reader.{fateNumber, assembling, Outcome}
+use Rattle.hdlc.specs.Fate.{Fated, given}
+use Rattle.hdlc.specs.Reader.{assembling, Outcome}
 use Rattle.hdlc.specs.Rules.{rules as readerRules}
-use Rattle.hdlc.specs.Wire.{bodyIn, fated}
+use Rattle.device.specs.State.{maxReply}
 use Rattle.device.specs.declared.state.Device.{Device}
 use Rattle.device.specs.Rules.{rules}
 use Rattle.engine.specs.Engine.{engine}
 use Rattle.engine.specs.Merged.{deviceAfter, repliesTo}
-use Rattle.serial.specs.declared.receiving.Answer.the-variants.{Read}
-use Rattle.serial.specs.Receiving.{breaksRules, unrefused}
+use Rattle.engine.proofs.ReplyBounds.{reply-bounds}
+use Rattle.serial.specs.declared.receiving.Received.{Received}
+use Rattle.serial.specs.Receiving.{Result, resultOf, breaksRules, unrefused, framed}
 use Rattle.serial.specs.Histories.{checkedOf, replyIn}
 
 pub rules-kept : (d : Device) (r : Reader) → breaksRules d r ≡ false → (rules d ≡ true) × (readerRules r ≡ true)
@@ -32,38 +33,72 @@ rules-kept d r e = both-told (not-false _ e)
 
 -- ---- a call that was not refused, by the bodies that it checked
 
-checked-told : (f : Fate) (xs : List ℕ) → checkedOf (fated f xs) ≡ cond (eqb (fateNumber f) 1) (bodyIn f xs ∷ []) []
-unfolding checkedOf fated
-checked-told Unfinished xs = refl
-checked-told (Checked n) xs = refl
-checked-told Short xs = refl
-checked-told WrongCheck xs = refl
-checked-told TooLong xs = refl
-checked-told CutEscape xs = refl
-checked-told BadHeader xs = refl
+checked-given : (f : Fated) → checkedOf (given f) ≡ cond (eqb (f .number) 1) (f .body ∷ []) []
+unfolding checkedOf given
+checked-given f =
+    by-test (eqb (f .number) 0) (λ t. rw (t, ap (λ n. eqb n 1) (eqb-true _ _ t))) (λ t. rw t (append-nil _))
 
-module _ (d : Device) (o : Outcome) (out : List ℕ) {bs : List (List ℕ)} (e : checkedOf (fated (o .fate) (o .state .assembly)) ≡ bs) where
-  found : bs ≡ cond (eqb (fateNumber (o .fate)) 1) (bodyIn (o .fate) (o .state .assembly) ∷ []) []
-  found = sym e ∙ checked-told (o .fate) (o .state .assembly)
+module _ (octets : List ℕ → List ℕ) (d : Device) (o : Outcome) (out : List ℕ) {bs : List (List ℕ)} (e : checkedOf (given (o .fate)) ≡ bs) where
+  found : bs ≡ cond (eqb (o .fate .number) 1) (o .fate .body ∷ []) []
+  found = sym e ∙ checked-given (o .fate)
 
-  pub unrefused-device : unrefused d o out .device ≡ deviceAfter d bs
+  pub unrefused-device : unrefused octets d o out .device ≡ deviceAfter d bs
   unfolding unrefused deviceAfter
-  unrefused-device = rw found (by-test (eqb (fateNumber (o .fate)) 1) (λ t. rw t) (λ t. rw t))
+  unrefused-device = rw found (by-test (eqb (o .fate .number) 1) (λ t. rw t) (λ t. rw t))
 
-  pub unrefused-reply : replyIn (unrefused d o out) ≡ map frame (repliesTo d bs)
-  unfolding unrefused replyIn repliesTo writing
-  unrefused-reply =
-      let reply = engine d (bodyIn (o .fate) (o .state .assembly)) .reply in
-      let some : eqb (length (frame reply)) 0 ≡ false = ne-eqb (length (frame reply)) 0 (λ z. omega (arith, frame-bounds reply)) in
-      rw found (by-test (eqb (fateNumber (o .fate)) 1) (λ t. simp (t, some, take-append-seam)) (λ t. simp t))
+  pub unrefused-octets : take (unrefused octets d o out .written) (unrefused octets d o out .output) ≡ each octets (repliesTo d bs)
+  unfolding unrefused repliesTo
+  unrefused-octets = rw found (by-test (eqb (o .fate .number) 1) (λ t. simp (t, take-append-seam, append-nil)) (λ t. simp t))
 
-  pub unrefused-octets : take (unrefused d o out .written) (unrefused d o out .output) ≡ each frame (repliesTo d bs)
-  unfolding unrefused repliesTo writing
-  unrefused-octets = rw found (by-test (eqb (fateNumber (o .fate)) 1) (λ t. simp (t, take-append-seam, append-nil)) (λ t. simp t))
+  pub unrefused-reply : ((b : List ℕ) → eqb (length (octets b)) 0 ≡ false) → replyIn (unrefused octets d o out) ≡ map octets (repliesTo d bs)
+  unfolding unrefused replyIn repliesTo
+  unrefused-reply some =
+      rw found (by-test (eqb (o .fate .number) 1) (λ t. simp (t, some (engine d (o .fate .body) .reply), take-append-seam)) (λ t. simp t))
+
+-- a frame is never empty
+pub frame-some : (b : List ℕ) → eqb (length (frame b)) 0 ≡ false
+frame-some b = ne-eqb (length (frame b)) 0 (λ z. omega (arith, frame-bounds b))
 
 -- the rest is what the reader gave
-pub unrefused-read : (d : Device) (o : Outcome) (out : List ℕ)
-    → (unrefused d o out .answer ≡ Read (o .fate)) × (unrefused d o out .read ≡ o .read)
-    × (assembling (unrefused d o out .reader) (unrefused d o out .assembly) ≡ o .state)
+pub unrefused-read : (octets : List ℕ → List ℕ) (d : Device) (o : Outcome) (out : List ℕ)
+    → (unrefused octets d o out .number ≡ o .fate .number) × (unrefused octets d o out .read ≡ o .read)
+    × (assembling (unrefused octets d o out .reader) (unrefused octets d o out .assembly) ≡ o .state)
 unfolding unrefused
-unrefused-read d o out = by-test (eqb (fateNumber (o .fate)) 1) (λ t. rw t (refl, refl, refl)) (λ t. rw t (refl, refl, refl))
+unrefused-read octets d o out = by-test (eqb (o .fate .number) 1) (λ t. rw t (sym (eqb-true _ _ t), refl, refl)) (λ t. rw t (refl, refl, refl))
+
+-- ---- before framing and framed
+
+pub unrefused-framed : (d : Device) (o : Outcome) (space out : List ℕ) → rules d ≡ true
+    → unrefused frame d o out ≡ framed (unrefused (λ b. b) d o space) out
+unfolding unrefused framed
+unrefused-framed d o space out keeps =
+    let reply = engine d (o .fate .body) .reply in
+    let some : eqb (length reply) 0 ≡ false = ne-eqb (length reply) 0 (λ z. let b = reply-bounds d (o .fate .body) keeps in omega arith) in
+    by-test (eqb (o .fate .number) 1) (λ t. simp (t, some, take-append-seam)) (λ t. simp t)
+
+-- nothing is written, or a reply, and that stands at the front of the space
+pub record Fits (r : Result) : Type 0 where
+  pub most : r .written ≤ maxReply
+  pub least : 0 < r .written → minBody ≤ r .written
+  pub within : r .written ≤ length (r .output)
+
+pub unrefused-fits : (d : Device) (o : Outcome) (space : List ℕ) → rules d ≡ true → Fits (unrefused (λ b. b) d o space)
+unfolding unrefused
+unrefused-fits d o space keeps =
+    let reply = engine d (o .fate .body) .reply in
+    let b = reply-bounds d (o .fate .body) keeps in
+    by-test (eqb (o .fate .number) 1)
+    (λ t. rw t (record { most = omega arith; least = λ _. omega arith; within = omega (arith, length-append reply (drop (length reply) space)) }))
+    (λ t. rw t (record { most = omega arith; least = λ z. absurd (omega arith); within = omega arith }))
+
+-- the code's result, framed: nothing was written, or the frame that the writer wrote
+pub framed-none : (r : Received) (a xs out : List ℕ) → r .written ≡ 0 → framed (resultOf r a xs) out ≡ resultOf r a out
+unfolding framed
+framed-none r a xs out e = rw e
+
+pub framed-some : (r : Received) (a xs out : List ℕ) {out′ : List ℕ} {n : ℕ} → 0 < r .written → written n out′ ≡ writing (take (r .written) xs) out
+    → framed (resultOf r a xs) out
+    ≡ resultOf (record { answer = r .answer; read = r .read; written = n; device = r .device; reader = r .reader }) a out′
+unfolding framed writing
+framed-some r a xs out some w =
+    rw (ne-eqb (r .written) 0 (λ z. omega arith), ap (λ z. z .count) w, ap (λ z. z .output) w)

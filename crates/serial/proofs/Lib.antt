@@ -1,4 +1,5 @@
 pub mod LawsReceiving
+pub mod Framing
 pub mod LawsHistories
 pub mod Faithful
 pub mod Separate

@@ -4,13 +4,13 @@
 -- xs and the frame, and the frame comes last.
 use mathlib.Core.Path.{_≡_, refl, sym, ap, subst, _∙_}
 use mathlib.Core.List.{List, [], _∷_, _++_, append-assoc, append-nil, map}
-use Prim.Native.Nat.{ℕ, _/_}
-use lib.Seq.{take-length}
-use Rattle.octets.specs.Body.{Body, headerOf}
+use Prim.Native.Nat.{ℕ}
+use Rattle.octets.specs.Body.{Body, SpinelBody}
 use Rattle.octets.specs.Octets.{Octets}
 use Rattle.frame.specs.Kind.{isFlag}
 use Rattle.frame.specs.Frame.{stuffed, withCheck, frame}
-use Rattle.hdlc.specs.Wire.{kept, gathered, cutEscape, pieceFate, ended, grown, finished, unfinished, fated, fatesOf}
+use Rattle.hdlc.specs.Fate.{given}
+use Rattle.hdlc.specs.Wire.{kept, gathered, cutEscape, pieceFate, ended, grown, finished, unfinished, fatesOf}
 use Rattle.hdlc.proofs.LawsFates.{headed-checked}
 use Rattle.hdlc.proofs.LawsPieces.{unfinished-append}
 use Rattle.hdlc.proofs.RoundTrip.{frame-told, frame-leaves}
@@ -35,7 +35,7 @@ flag-ends xs = unfinished-append [] xs (0x7e ∷ [])
 
 -- one with nothing before it is no frame
 flag-alone : (xs : List ℕ) → checkedIn [] (0x7e ∷ xs) ≡ checkedIn [] xs
-unfolding checkedIn checkedOf fatesOf finished ended grown isFlag pieceFate gathered cutEscape kept fated
+unfolding checkedIn checkedOf fatesOf finished ended grown isFlag pieceFate gathered cutEscape kept given
 flag-alone xs = refl
 
 -- so what a flag follows and what follows it have their own bodies
@@ -45,11 +45,14 @@ flag-parts xs ys =
     ∙ checked-append [] (xs ++ (0x7e ∷ [])) ys
     ∙ ap (λ q. checkedIn [] (xs ++ (0x7e ∷ [])) ++ checkedIn q ys) (flag-ends xs)
 
-module _ (b : List ℕ) (size : Body b) (octets : Octets b) (top : headerOf b / 64 ≡ 2) where
+module _ (b : List ℕ) (spinel : SpinelBody b) (octets : Octets b) where
+  size : Body b
+  size = (spinel .0, spinel .1)
+
   -- a frame is one checked body, and leaves nothing open
   frame-checked : checkedIn [] (frame b) ≡ b ∷ []
-  unfolding checkedIn checkedOf fated
-  frame-checked = ap checkedOf (frame-told b size octets) ∙ rw (headed-checked b top) (ap (λ l. l ∷ []) (take-length b))
+  unfolding checkedIn checkedOf
+  frame-checked = ap checkedOf (frame-told b size octets) ∙ rw (headed-checked b (spinel .2))
 
   frame-then : (ys : List ℕ) → checkedIn [] (frame b ++ ys) ≡ b ∷ checkedIn [] ys
   frame-then ys = checked-append [] (frame b) ys ∙ rw (frame-checked, frame-leaves b size octets)

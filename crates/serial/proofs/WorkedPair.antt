@@ -11,8 +11,9 @@ use Rattle.octets.specs.LittleEndian.{le, leAt}
 use Rattle.octets.specs.Padding.{pad}
 use Rattle.frame.specs.Kind.{isFlag, isEscape, isSkipped}
 use Rattle.frame.specs.Fcs.{fcsBit, fcsBits, fcsOctet, fcsFrom, fcs}
-use Rattle.hdlc.specs.Reader.{bodyOf, checkOf, headed, frameFate, maxGathered}
-use Rattle.hdlc.specs.Wire.{kept, meant, pends, gathered, cutEscape, pieceFate, ended, grown, finished, unfinished, fated, fatesOf, pieceFateAt, call, callReads}
+use Rattle.hdlc.specs.Fate.{given}
+use Rattle.hdlc.specs.Reader.{bodyOf, checkOf, maxGathered}
+use Rattle.hdlc.specs.Wire.{kept, meant, pends, gathered, cutEscape, contentFate, pieceFate, ended, grown, finished, unfinished, fatesOf, pieceFateAt, call, callReads}
 use Rattle.device.specs.State.{fresh, addressSize}
 use Rattle.device.specs.Text.{goodText, isText}
 use Rattle.device.specs.Setup.{isGoodSetup, setupFor}
@@ -82,15 +83,15 @@ expected =
     []
 
 pub both-merged : (mergedIn two-links 1 noisy ≡ expected) × (mergedIn two-links 1 clean ≡ expected)
-unfolding before le leAt pad isFlag isEscape isSkipped fcsBit fcsBits fcsOctet fcsFrom fcs bodyOf checkOf headed frameFate
-    kept meant pends gathered cutEscape pieceFate ended grown finished unfinished fated fatesOf pieceFateAt call callReads
+unfolding before le leAt pad isFlag isEscape isSkipped fcsBit fcsBits fcsOctet fcsFrom fcs bodyOf checkOf given
+    kept meant pends gathered cutEscape contentFate pieceFate ended grown finished unfinished fatesOf pieceFateAt call callReads
     goodText isText fresh isGoodSetup setupFor linkOf isSetUp isReset isPower effectOf effectItem itemOf merged
     isRefused readBy laidFrom laid checkedOf checkedIn bodies mergedIn
 both-merged = (refl, refl)
 
 pub other-bodies : (length (bodies noisy) ≡ 7) × (length (bodies clean) ≡ 6)
-unfolding le leAt isFlag isEscape isSkipped fcsBit fcsBits fcsOctet fcsFrom fcs bodyOf checkOf headed frameFate
-    kept meant pends gathered cutEscape pieceFate ended grown finished unfinished fated fatesOf pieceFateAt call callReads
+unfolding le leAt isFlag isEscape isSkipped fcsBit fcsBits fcsOctet fcsFrom fcs bodyOf checkOf given
+    kept meant pends gathered cutEscape contentFate pieceFate ended grown finished unfinished fatesOf pieceFateAt call callReads
     isRefused readBy laidFrom laid checkedOf checkedIn bodies
 other-bodies = (refl, refl)
 

@@ -7,12 +7,13 @@ use lib.ListN.{length, take}
 use Rattle.octets.specs.Runs.{each, emitted}
 use Rattle.frame.specs.Frame.{frame}
 use Rattle.hdlc.specs.declared.reader.Reader.{Reader}
-use Rattle.hdlc.specs.Reader.{fateNumber, maxGathered, fresh}
-use Rattle.hdlc.specs.Wire.{Fated, fatesOf, finished, unfinished, call, callReads}
+use Rattle.hdlc.specs.Fate.{Fated}
+use Rattle.hdlc.specs.Reader.{maxGathered, fresh}
+use Rattle.hdlc.specs.Wire.{fatesOf, finished, unfinished, call, callReads}
 use Rattle.device.specs.declared.state.Device.{Device}
 use Rattle.device.specs.Setup.{setupFor}
 use Rattle.engine.specs.Merged.{deviceAfter, repliesTo}
-use Rattle.serial.specs.Receiving.{numberOf, minOutput, Result, receive}
+use Rattle.serial.specs.Receiving.{minOutput, Result, receive}
 
 -- ---- histories
 
@@ -140,7 +141,7 @@ abbrev pub report : ℕ → ℕ → List ℕ → Report
 report n k xs = record { number = n; read = k; octets = xs }
 
 unfoldable pub reported : Result → Report
-reported r = report (numberOf (r .answer)) (r .read) (take (r .written) (r .output))
+reported r = report (r .number) (r .read) (take (r .written) (r .output))
 
 -- what it has to report after an open piece p, with the device d, and `a` for the own buffer: 12 or 13, else the fate of the first piece
 -- that has one (0 if none has), the octets up to its flag, and the frames of the replies to what was checked
@@ -148,7 +149,7 @@ unfoldable pub callMeans : List ℕ → List ℕ → Device → ReceivingCall �
 callMeans a p d c =
     cond (ltb (length (lentFrom (c .lent) a)) maxGathered) (report 12 0 [])
     (cond (ltb (length (c .output)) minOutput) (report 13 0 [])
-    (report (fateNumber (call p (c .input) .fate)) (call p (c .input) .read) (each frame (repliesTo d (checkedIn p (callReads p (c .input)))))))
+    (report (call p (c .input) .fate .number) (call p (c .input) .read) (each frame (repliesTo d (checkedIn p (callReads p (c .input)))))))
 
 -- the piece that is open after a history, and the device
 unfoldable pub openAfter : History → List ℕ

@@ -1,17 +1,17 @@
 -- The receiving call (01, Octets on the wire).
 use mathlib.Core.Bool.{Bool, cond, not, _&&_}
-use mathlib.Core.List.{List}
+use mathlib.Core.List.{List, [], _++_}
 use Prim.Native.Nat.{ℕ}
 use lib.Dec.{eqb, ltb}
-use lib.ListN.{length}
-use Rattle.frame.specs.Frame.{writing}
+use lib.ListN.{length, take, drop}
+use Rattle.frame.specs.Frame.{frame}
 use Rattle.hdlc.specs.declared.reader.Reader.{Reader}
-use Rattle.hdlc.specs.Reader.{fateNumber, maxGathered, assembling, Outcome, run}
+use Rattle.hdlc.specs.Fate.{fateNumber, bodyIn}
+use Rattle.hdlc.specs.Reader.{maxGathered, assembling, Outcome, run}
 use Rattle.hdlc.specs.Rules.{rules as readerRules}
-use Rattle.hdlc.specs.Wire.{bodyIn}
 use Rattle.device.specs.declared.state.Device.{Device}
 use Rattle.device.specs.Rules.{rules}
-use Rattle.engine.specs.Engine.{Response, engine}
+use Rattle.engine.specs.Engine.{engine}
 use Rattle.serial.specs.declared.receiving.Answer.{Answer}
 use Rattle.serial.specs.declared.receiving.Answer.the-variants.{Read, BadState, SmallAssembly, SmallOutput}
 use Rattle.serial.specs.declared.receiving.Received.{Received}
@@ -23,13 +23,21 @@ numberOf BadState = 11
 numberOf SmallAssembly = 12
 numberOf SmallOutput = 13
 
+-- the body of the frame that was answered, from the front of the assembly buffer
+abbrev pub requestIn : Answer → List ℕ → List ℕ
+requestIn (Read f) a = bodyIn f a
+requestIn BadState a = []
+requestIn SmallAssembly a = []
+requestIn SmallOutput a = []
+
 -- "refused: output under 128"
 abbrev pub minOutput : ℕ
 minOutput = 128
 
--- what a call returns, and every octet of the two buffers that it was lent
+-- what a call returns, by 01's number and with the body of the frame that it answered, and every octet of the two buffers that it was lent
 pub record Result : Type 0 where
-  pub answer : Answer
+  pub number : ℕ
+  pub request : List ℕ
   pub read : ℕ
   pub written : ℕ
   pub device : Device
@@ -40,7 +48,8 @@ pub record Result : Type 0 where
 abbrev pub resultOf : Received → List ℕ → List ℕ → Result
 resultOf r a out =
     record {
-      answer = r .answer;
+      number = numberOf (r .answer);
+      request = requestIn (r .answer) a;
       read = r .read;
       written = r .written;
       device = r .device;
@@ -50,27 +59,30 @@ resultOf r a out =
     }
 
 -- "Refusals .. read and write nothing, return zero for every count and hand the given state back"
-abbrev pub refused : Answer → Device → Reader → List ℕ → List ℕ → Result
-refused n d r a out = record { answer = n; read = 0; written = 0; device = d; reader = r; assembly = a; output = out }
+abbrev pub refused : ℕ → Device → Reader → List ℕ → List ℕ → Result
+refused n d r a out =
+    record { number = n; request = []; read = 0; written = 0; device = d; reader = r; assembly = a; output = out }
 
--- fate 1, "frame answered": the engine's reply is framed at the front of the output, and behind it stands what the output held
-abbrev pub replied : Outcome → Response → List ℕ → Result
-replied o e out =
+-- fate 1, "frame answered": octets are written at the front of the output, and behind them stands what the output held
+abbrev pub replied : Outcome → Device → List ℕ → List ℕ → Result
+replied o d xs out =
     record {
-      answer = Read (o .fate);
+      number = 1;
+      request = o .fate .body;
       read = o .read;
-      written = writing (e .reply) out .count;
-      device = e .device;
+      written = length xs;
+      device = d;
       reader = o .state .reader;
       assembly = o .state .assembly;
-      output = writing (e .reply) out .output;
+      output = xs ++ drop (length xs) out;
     }
 
 -- any other: "Fates 2 to 6 change no property and write no reply"
 abbrev pub unanswered : Outcome → Device → List ℕ → Result
 unanswered o d out =
     record {
-      answer = Read (o .fate);
+      number = o .fate .number;
+      request = [];
       read = o .read;
       written = 0;
       device = d;
@@ -79,19 +91,42 @@ unanswered o d out =
       output = out;
     }
 
--- what was read; a checked body stands at the front of the assembly buffer
-unfoldable pub unrefused : Device → Outcome → List ℕ → Result
-unrefused d o out =
-    cond (eqb (fateNumber (o .fate)) 1) (replied o (engine d (bodyIn (o .fate) (o .state .assembly))) out) (unanswered o d out)
+-- what was read: a checked body is the engine's, and `octets` are those that go out for its reply
+unfoldable pub unrefused : (List ℕ → List ℕ) → Device → Outcome → List ℕ → Result
+unrefused octets d o out =
+    let e = engine d (o .fate .body) in
+    cond (eqb (o .fate .number) 1) (replied o (e .device) (octets (e .reply)) out) (unanswered o d out)
 
 -- "state breaks its own rules": the box, or the reader
 unfoldable pub breaksRules : Device → Reader → Bool
 breaksRules d r = not (rules d && readerRules r)
 
--- "refusals in the order 11, 12, 13"
+-- "refusals in the order 11, 12, 13"; a reply goes out as a frame
 unfoldable pub receive : Device → Reader → List ℕ → List ℕ → List ℕ → Result
 receive d r input a out =
-    cond (breaksRules d r) (refused BadState d r a out)
-    (cond (ltb (length a) maxGathered) (refused SmallAssembly d r a out)
-    (cond (ltb (length out) minOutput) (refused SmallOutput d r a out)
-    (unrefused d (run (assembling r a) input) out)))
+    cond (breaksRules d r) (refused 11 d r a out)
+    (cond (ltb (length a) maxGathered) (refused 12 d r a out)
+    (cond (ltb (length out) minOutput) (refused 13 d r a out)
+    (unrefused frame d (run (assembling r a) input) out)))
+
+-- the same before framing: a reply goes out as its body, for which any space lent has room
+unfoldable pub receiveBody : Device → Reader → List ℕ → List ℕ → List ℕ → Result
+receiveBody d r input a space =
+    cond (breaksRules d r) (refused 11 d r a space)
+    (cond (ltb (length a) maxGathered) (refused 12 d r a space)
+    (unrefused (λ b. b) d (run (assembling r a) input) space))
+
+-- the first with an output, from the second: what was written is framed into it
+unfoldable pub framed : Result → List ℕ → Result
+framed r out =
+    let xs = cond (eqb (r .written) 0) [] (frame (take (r .written) (r .output))) in
+    record {
+      number = r .number;
+      request = r .request;
+      read = r .read;
+      written = length xs;
+      device = r .device;
+      reader = r .reader;
+      assembly = r .assembly;
+      output = xs ++ drop (length xs) out;
+    }

@@ -4,3 +4,4 @@ mod receiving;
 pub use receiving::Answer;
 pub use receiving::Received;
 pub use receiving::receive;
+pub use receiving::receive_body;

@@ -7,15 +7,12 @@ use hdlc::Reader;
 use hdlc::read_frame;
 ghost use mathlib.Core.Bool.{true};
 ghost use mathlib.Core.Path.{_≡_};
-ghost use Prim.Native.Nat.{_≤_, _/_};
+ghost use Prim.Native.Nat.{_≤_};
 ghost use lib.ListN.{length};
-ghost use Rattle.octets.specs.Body.{maxBody, minBody, headerOf};
-ghost use Rattle.frame.specs.Frame.{written, writing};
 ghost use Rattle.hdlc.specs.Reader.{maxGathered, assembling, run};
 ghost use Rattle.hdlc.specs.Rules.{rules as readerRules};
 ghost use Rattle.device.specs.Rules.{rules};
-ghost use Rattle.engine.specs.Engine.{engine};
-ghost use Rattle.serial.specs.Receiving.{numberOf, minOutput, resultOf, breaksRules, unrefused, receive};
+ghost use Rattle.serial.specs.Receiving.{numberOf, resultOf, breaksRules, unrefused, receive, receiveBody};
 
 // What a call answers, with 01's numbers.
 pub enum Answer {
@@ -53,12 +50,6 @@ pub struct Received {
     pub reader: Reader,
 }
 
-// The box after a body, and how many octets the reply's frame has.
-struct Replied {
-    device: Device,
-    written: usize,
-}
-
 fn breaks_rules(device: Device, reader: Reader) -> bool
     ensures { λ r. ⌜ r ≡ breaksRules device reader ⌝ }
 {
@@ -81,48 +72,30 @@ fn without_reply(answer: Answer, read: usize, device: Device, reader: Reader) ->
     }
 }
 
-// The engine's answer to a checked body. The reply's frame goes to the front of the output.
-fn reply(device: Device, body: &[u8], output: &mut [u8]) -> Replied
-    requires rules { ⌜ rules device ≡ true ⌝ }
-    requires body { ⌜ (minBody ≤ length (now body)) × (length (now body) ≤ maxBody) × (headerOf (now body) / 64 ≡ 2) ⌝ }
-    requires room { ⌜ minOutput ≤ length (now output) ⌝ }
-    ensures device { λ r. ⌜ r .device ≡ engine device (now (body .entry)) .device ⌝ }
-    ensures output { λ r. ⌜ written (r .written) (now (output .exit)) ≡ writing (engine device (now (body .entry)) .reply) (now (output .entry)) ⌝ }
-{
-    let mut space = [0u8; Device::MAX_REPLY];
-    let answered = answer(device, body, &mut space);
-    let len = answered.len;
-    let device = answered.device;
-    Replied {
-        device,
-        written: write_frame(&space[..len], output),
-    }
-}
-
-// Reads to the first fate, and answers a checked frame.
-fn read_and_reply(
+// Reads to the first fate, and has a checked body answered. The reply goes to the front of the space.
+fn read_and_answer(
     device: Device,
     reader: Reader,
     input: &[u8],
     assembly: &mut [u8],
-    output: &mut [u8],
+    space: &mut [u8; Device::MAX_REPLY],
 ) -> Received
     requires rules { ⌜ (rules device ≡ true) × (readerRules reader ≡ true) ⌝ }
-    requires room { ⌜ (maxGathered ≤ length (now assembly)) × (minOutput ≤ length (now output)) ⌝ }
+    requires room { ⌜ maxGathered ≤ length (now assembly) ⌝ }
     ensures { λ r.
-        ⌜ resultOf r (now (assembly .exit)) (now (output .exit))
-        ≡ unrefused device (run (assembling reader (now (assembly .entry))) (now (input .entry))) (now (output .entry)) ⌝ }
+        ⌜ resultOf r (now (assembly .exit)) (now (space .exit))
+        ≡ unrefused (λ b. b) device (run (assembling reader (now (assembly .entry))) (now (input .entry))) (now (space .entry)) ⌝ }
 {
     let reading = read_frame(reader, input, assembly);
     let fate = reading.fate;
     let next = reading.reader;
     if let Fate::Checked(len) = fate {
-        let replied = reply(device, &assembly[..len], output);
-        let changed = replied.device;
+        let answered = answer(device, &assembly[..len], space);
+        let changed = answered.device;
         return Received {
             answer: Answer::Read(fate),
             read: reading.read,
-            written: replied.written,
+            written: answered.len,
             device: changed,
             reader: next,
         };
@@ -151,5 +124,32 @@ pub fn receive(
     if output.len() < Device::MIN_OUTPUT {
         return without_reply(Answer::SmallOutput, 0, device, reader);
     }
-    read_and_reply(device, reader, input, assembly, output)
+    let mut reply = [0u8; Device::MAX_REPLY];
+    let mut received = read_and_answer(device, reader, input, assembly, &mut reply);
+    let len = received.written;
+    if 0 < len {
+        received.written = write_frame(&reply[..len], output);
+    }
+    received
+}
+
+// As `receive`, before framing: the reply's body stands at the front of the space, which always has room for it.
+pub fn receive_body(
+    device: Device,
+    reader: Reader,
+    input: &[u8],
+    assembly: &mut [u8],
+    space: &mut [u8; Device::MAX_REPLY],
+) -> Received
+    ensures { λ r.
+        ⌜ resultOf r (now (assembly .exit)) (now (space .exit))
+        ≡ receiveBody device reader (now (input .entry)) (now (assembly .entry)) (now (space .entry)) ⌝ }
+{
+    if breaks_rules(device, reader) {
+        return without_reply(Answer::BadState, 0, device, reader);
+    }
+    if assembly.len() < Reader::MAX_GATHERED {
+        return without_reply(Answer::SmallAssembly, 0, device, reader);
+    }
+    read_and_answer(device, reader, input, assembly, space)
 }
