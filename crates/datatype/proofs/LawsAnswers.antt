@@ -8,7 +8,7 @@ use native.Mathlib.Nat.{zero-add}
 use borrow.Author.Tests.{lt-ltb, le-ltb}
 use lib.ListN.{length, drop}
 use lib.Seq.{sets, sets-eq}
-use Rattle.typestring.specs.Grammar.{Items}
+use Rattle.typestring.specs.Grammar.{Items, maxOpen, maxOctets}
 use Rattle.typestring.specs.Parse.{Parsed, malformed, parsed, typeOf, isType}
 use Rattle.typestring.specs.Calls.{PartFrom}
 use Rattle.typestring.proofs.LawsGrammar.{end-shut}
@@ -50,7 +50,7 @@ none-lent (y ∷ ys) list e = absurd (omega arith)
 
 module _ (types payload list : List ℕ) (typed : isType (typeOf types) ≡ true) where
   -- the tree of the string
-  tree : (t : Items) × (typeOf types ≡ parsed t []) × PartFrom types 4 t × (length types ≤ 64)
+  tree : (t : Items) × (typeOf types ≡ parsed t []) × PartFrom types maxOpen t × (length types ≤ maxOctets)
   tree =
       let w = accepted types typed in (
         w .0,
@@ -64,7 +64,7 @@ module _ (types payload list : List ℕ) (typed : isType (typeOf types) ≡ true
   answers-long h = refuses types payload list list answer.Misfit 16 (rw (tree .1, lt-ltb _ _ h)) refl refl
 
   module _ (short : length payload ≤ maxPayload) where
-    pub readable : ((t : Items) × PartFrom types 4 t) × Room types payload 0 0 0
+    pub readable : ((t : Items) × PartFrom types maxOpen t) × Room types payload 0 0 0
     readable =
         ((tree .0, tree .2), record { few = tree .3; placed = omega arith; short = short; within = omega arith; counted = omega arith })
 
@@ -72,7 +72,7 @@ module _ (types payload list : List ℕ) (typed : isType (typeOf types) ≡ true
     unfolding result
     result-is = rw (tree .1, le-ltb _ _ short)
 
-    module _ (ys ys′ : List ℕ) (none : length ys′ ≡ 0) (r r′ : Read) (first : ReadsPart types 4 payload 0 ys ys′ 0 r)
+    module _ (ys ys′ : List ℕ) (none : length ys′ ≡ 0) (r r′ : Read) (first : ReadsPart types maxOpen payload 0 ys ys′ 0 r)
         (fill : r′ ≡ fillingTo (length payload) r) where
       did : Did (payloadReads (tree .0) payload) ys ys′ 0 r′
       did = rw fill (did-filling (length payload) (partReads (tree .0) payload 0) ys ys′ 0 r (first (tree .0) (tree .2)))
@@ -90,10 +90,10 @@ module _ (types payload list : List ℕ) (typed : isType (typeOf types) ≡ true
         found = did-upto (payloadReads (tree .0) payload) ys ys′ 0 p n (rw e at did)
 
         -- so that three numbers a leaf can be counted
-        pub few-leaves : n ≤ 1301
+        pub few-leaves : n ≤ maxPayload + 1
         few-leaves =
             let f = filling-fit (length payload) (partReads (tree .0) payload 0) p (found .0) (found .1) in
-            let g = part-took (tree .0) 4 false payload 0 p (found .0) (tree .2 .rules) (omega arith) (f .0) in
+            let g = part-took (tree .0) maxOpen false payload 0 p (found .0) (tree .2 .rules) (omega arith) (f .0) in
             omega (arith, g .within, g .few, found .2)
 
         pub answers-short : length list < 3 * n → Answered types payload list (ys′ ++ list) answer.ShortList
@@ -102,7 +102,7 @@ module _ (types payload list : List ℕ) (typed : isType (typeOf types) ≡ true
             let room : length list < 3 * length (found .0) = omega (arith, found .2) in
             refuses types payload list (ys′ ++ list) answer.ShortList 17 (result-is ∙ rw (found .1, lt-ltb _ _ room)) (none-lent ys′ list none) refl
 
-        pub answers-leaves : 3 * n ≤ length list → (r₂ : Read) (list₂ : List ℕ) → ReadsPart types 4 payload 0 (ys′ ++ list) list₂ 0 r₂
+        pub answers-leaves : 3 * n ≤ length list → (r₂ : Read) (list₂ : List ℕ) → ReadsPart types maxOpen payload 0 (ys′ ++ list) list₂ 0 r₂
             → Answered types payload list list₂ (answer.Leaves n)
         unfolding listed reportOf filled
         answers-leaves h r₂ list₂ second =

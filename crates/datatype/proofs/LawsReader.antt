@@ -110,7 +110,7 @@ module _ (types : List ℕ) (at depth : ℕ) (part : List ℕ) (from : ℕ) (l l
 -- ---- A and its elements
 
 module _ (types : List ℕ) (at depth : ℕ) (t : Items) (w : ItemFrom (drop at types) depth (array t)) (part : List ℕ) (from : ℕ) where
-  array-took : (p : ℕ) (ls : List Leaf) → from ≤ length part → partReads t part from ≡ upto p ls → Took part from p ls 1 0
+  array-took : (p : ℕ) (ls : List Leaf) → from ≤ length part → partReads t part from ≡ upto p ls → Took part from p ls 1 1
   array-took p ls = let inner = array-inner types at depth t w in element-took t (depth - 1) part from p ls (inner .3) (inner .4)
 
 array-more : (types : List ℕ) (at depth : ℕ) (t : Items) → ItemFrom (drop at types) depth (array t) → (part : List ℕ) (from : ℕ) → from < length part

@@ -5,6 +5,7 @@ use Prim.Native.Nat.{ℕ, zero, suc, _+_, _-_, _≤_, _<_}
 use native.Mathlib.Omega.{arith}
 use borrow.Author.Tests.{eqb-true, lt-ltb, le-ltb}
 use lib.Dec.{eqb, ltb}
+use lib.ListN.{length}
 use Rattle.octets.proofs.LawsTests.{by-test}
 use Rattle.datatype.specs.declared.leaf.Span.{Span}
 use Rattle.datatype.specs.declared.leaf.Span.the-variants as span
@@ -40,6 +41,13 @@ pub leaf-fit : (c : ℕ) (s : Span) (p : ℕ) (ls : List Leaf) → leafReads c s
 unfolding leafReads
 leaf-fit c span.Misfit p ls e = never e
 leaf-fit c (span.At start size next) p ls e = (start, size, cc, cc)
+
+pub one-leaf : (c : ℕ) (s : Span) (go : ℕ → Reading) (p : ℕ) (ls : List Leaf) → andThen (leafReads c s) go ≡ upto p ls
+    → (q : ℕ) × (ns : List Leaf) × (go q ≡ upto p ns) × (length ls ≡ suc (length ns))
+one-leaf c s go p ls e =
+    let w = both-fit (leafReads c s) go p ls e in
+    let f = leaf-fit c s (w .0) (w .1) (w .3) in
+    (w .0, w .2, w .4, ap length (rw (f .3) at (w .5)))
 
 pub contents-fit : (s : Span) (go : ℕ → ℕ → Reading) (p : ℕ) (ls : List Leaf) → contents s go ≡ upto p ls
     → (start : ℕ) × (size : ℕ) × (s ≡ span.At start size p) × (go start p ≡ upto p ls)

@@ -1,48 +1,50 @@
 -- The octets that a reading takes and the leaves that it finds in them.
-use mathlib.Core.Path.{_≡_, refl}
+use mathlib.Core.Path.{_≡_, refl, ap}
 use mathlib.Core.Bool.{Bool, true, false}
 use mathlib.Core.List.{List, [], _∷_, _++_}
-use Prim.Native.Nat.{ℕ, zero, suc, _+_, _-_, _≤_}
+use Prim.Native.Nat.{ℕ, zero, suc, _+_, _-_, _≤_, _<_}
 use native.Mathlib.Omega.{arith}
+use borrow.Author.Tests.{ltb-true, ltb-false}
 use lib.Dec.{ltb}
 use lib.ListN.{length, take, length-append}
 use lib.Seq.{length-take-le}
-use Rattle.octets.proofs.LawsTests.{by-test}
-use Rattle.typestring.specs.Grammar.{Item, Items, value, rest, struct, array, end, more, Some, ItemRules, PartRules}
+use Rattle.octets.proofs.LawsTests.{by-test, impossible}
+use Rattle.typestring.specs.Grammar.{Item, Items, value, rest, struct, array, end, more, print, Some, ItemRules, PartRules}
 use Rattle.datatype.specs.Leaf.{spanOf, countedAt, restOf}
 use Rattle.datatype.proofs.LawsLeaves.{span-fits, counted-fits}
 use Rattle.datatype.specs.Reading.{Leaf, InOrder, Reading, upto, andThen, elements, itemReads, partReads}
-use Rattle.datatype.proofs.LawsReading.{both-fit, leaf-fit, contents-fit}
+use Rattle.datatype.proofs.LawsReading.{both-fit, leaf-fit, one-leaf, contents-fit}
 
--- the least octets that an item takes, and the leaves that need none
+-- the least octets that an item takes, and how many leaves it may have on them; further ones take an octet each
 abbrev least : Item → ℕ
 least (value c v) = 1
 least rest = 0
 least (struct t) = 2
 least (array t) = 0
 
-abbrev spare : Item → ℕ
-spare (value c v) = 0
-spare rest = 1
-spare (struct t) = 0
-spare (array t) = 0
+abbrev most : Item → ℕ
+most (value c v) = 1
+most rest = 1
+most (struct t) = 1
+most (array t) = 0
 
 leasts : Items → ℕ
 leasts end = 0
 leasts (more i t) = least i + leasts t
 
-spares : Items → ℕ
-spares end = 0
-spares (more i t) = spare i + spares t
+mosts : Items → ℕ
+mosts end = 0
+mosts (more i t) = most i + mosts t
 
--- a reading takes at least so many octets, stays within its part, has at most a leaf for each octet and so many more, and these in order
+-- a reading takes at least so many octets, stays within its part, has at most so many leaves and one for each octet beyond the least, and
+-- these in order
 pub record Took (part : List ℕ) (from p : ℕ) (ls : List Leaf) (low high : ℕ) : Type 0 where
   pub onward : from + low ≤ p
   pub within : p ≤ length part
-  pub few : length ls ≤ (p - from) + high
+  pub few : length ls + low ≤ (p - from) + high
   pub ordered : InOrder from ls p
 
-loosen : {part : List ℕ} {from p : ℕ} {ls : List Leaf} {low high low′ high′ : ℕ} → Took part from p ls low high → low′ ≤ low → high ≤ high′
+loosen : {part : List ℕ} {from p : ℕ} {ls : List Leaf} {low high low′ high′ : ℕ} → Took part from p ls low high → low′ ≤ low → high + low′ ≤ high′ + low
     → Took part from p ls low′ high′
 loosen g a b = record { onward = omega (arith, g .onward); within = g .within; few = omega (arith, g .few); ordered = g .ordered }
 
@@ -91,26 +93,27 @@ took-elements part go (suc n) from p ls each room e =
     (λ q here ns. took-elements part go n q p ns each here) (rw t at e))
     (λ t. took-none part from p ls room (rw t at e))
 
-one-spare : (i : Item) → spare i ≤ 1
+-- only D has a leaf that needs no octet, and it stands last
+one-spare : (i : Item) → most i ≤ 1 + least i
 one-spare (value c v) = omega arith
 one-spare rest = omega arith
 one-spare (struct t) = omega arith
 one-spare (array t) = omega arith
 
-few-spares : (t : Items) (left : ℕ) (a : Bool) → PartRules t left a → spares t ≤ 1
-unfolding PartRules spares
+few-spares : (t : Items) (left : ℕ) (a : Bool) → PartRules t left a → mosts t ≤ 1 + leasts t
+unfolding PartRules mosts leasts
 few-spares end left a k = omega arith
 few-spares (more (value c v) t) left a k = omega (arith, few-spares t left a (k .2))
 few-spares (more rest t) left a k = rw (k .1 refl) (omega arith)
 few-spares (more (struct u) t) left a k = omega (arith, few-spares t left a (k .2))
 few-spares (more (array u) t) left a k = omega (arith, few-spares t left a (k .2))
 
--- directly inside A(..) nothing is spare, and items take octets
-no-spares : (t : Items) (left : ℕ) → PartRules t left true → spares t ≡ 0
-unfolding PartRules ItemRules spares
-no-spares end left k = refl
+-- directly inside A(..) there is none, and items take octets
+no-spares : (t : Items) (left : ℕ) → PartRules t left true → mosts t ≤ leasts t
+unfolding PartRules ItemRules mosts leasts
+no-spares end left k = omega arith
 no-spares (more (value c v) t) left k = omega (arith, no-spares t left (k .2))
-no-spares (more rest t) left k = let z : _≡_ {A = ℕ} 0 1 = cc (k .0) in absurd (omega arith)
+no-spares (more rest t) left k = impossible (cc (k .0))
 no-spares (more (struct u) t) left k = omega (arith, no-spares t left (k .2))
 no-spares (more (array u) t) left k = omega (arith, no-spares t left (k .2))
 
@@ -118,15 +121,15 @@ some-least : (t : Items) (left : ℕ) → PartRules t left true → Some t → 1
 unfolding PartRules ItemRules leasts
 some-least end left k some = absurd some
 some-least (more (value c v) t) left k some = omega arith
-some-least (more rest t) left k some = let z : _≡_ {A = ℕ} 0 1 = cc (k .0) in absurd (omega arith)
+some-least (more rest t) left k some = impossible (cc (k .0))
 some-least (more (struct u) t) left k some = omega arith
-some-least (more (array u) t) left k some = let z : _≡_ {A = ℕ} 0 1 = cc (k .0 .0) in absurd (omega arith)
+some-least (more (array u) t) left k some = impossible (cc (k .0 .0))
 
 mutual
-  unfolding itemReads restOf ItemRules PartRules spares leasts
+  unfolding itemReads ItemRules PartRules mosts leasts
 
   took-item : (i : Item) (left : ℕ) (a : Bool) (part : List ℕ) (from p : ℕ) (ls : List Leaf)
-      → ItemRules i left a → from ≤ length part → itemReads i part from ≡ upto p ls → Took part from p ls (least i) (spare i)
+      → ItemRules i left a → from ≤ length part → itemReads i part from ≡ upto p ls → Took part from p ls (least i) (most i)
   took-item (value c v) left a part from p ls k room e =
       let w = leaf-fit c (spanOf v part from) p ls e in
       let f = span-fits v part from (w .0) (w .1) p room c k (w .2) in
@@ -154,25 +157,48 @@ mutual
       room e
 
   took-part : (t : Items) (left : ℕ) (a : Bool) (part : List ℕ) (from p : ℕ) (ls : List Leaf)
-      → PartRules t left a → from ≤ length part → partReads t part from ≡ upto p ls → Took part from p ls (leasts t) (spares t)
+      → PartRules t left a → from ≤ length part → partReads t part from ≡ upto p ls → Took part from p ls (leasts t) (mosts t)
   took-part end left a part from p ls k room e = took-none part from p ls room e
   took-part (more i t) left a part from p ls k room e =
-      took-both part from (itemReads i part from) (λ q. partReads t part q) p ls (least i) (spare i) (leasts t) (spares t)
+      took-both part from (itemReads i part from) (λ q. partReads t part q) p ls (least i) (most i) (leasts t) (mosts t)
       (λ q ms e. took-item i left a part from q ms (k .0) room e) (λ q here ns e. took-part t left a part q p ns (k .2) here e) e
 
 -- ---- what callers ask
 
 -- no element of an array takes zero octets, and it has at most a leaf for each
 pub element-took : (t : Items) (left : ℕ) (part : List ℕ) (from p : ℕ) (ls : List Leaf) → PartRules t left true → Some t → from ≤ length part
-    → partReads t part from ≡ upto p ls → Took part from p ls 1 0
+    → partReads t part from ≡ upto p ls → Took part from p ls 1 1
 element-took t left part from p ls rules some room e =
     loosen (took-part t left true part from p ls rules room e) (some-least t left rules some) (omega (arith, no-spares t left rules))
 
 -- an item has at most one leaf more than octets, and so has a part
 pub item-took : (i : Item) (left : ℕ) (a : Bool) (part : List ℕ) (from p : ℕ) (ls : List Leaf) → ItemRules i left a → from ≤ length part
     → itemReads i part from ≡ upto p ls → Took part from p ls 0 1
-item-took i left a part from p ls rules room e = loosen (took-item i left a part from p ls rules room e) (omega arith) (one-spare i)
+item-took i left a part from p ls rules room e = loosen (took-item i left a part from p ls rules room e) (omega arith) (omega (arith, one-spare i))
 
 pub part-took : (t : Items) (left : ℕ) (a : Bool) (part : List ℕ) (from p : ℕ) (ls : List Leaf) → PartRules t left a → from ≤ length part
     → partReads t part from ≡ upto p ls → Took part from p ls 0 1
-part-took t left a part from p ls rules room e = loosen (took-part t left a part from p ls rules room e) (omega arith) (few-spares t left a rules)
+part-took t left a part from p ls rules room e = loosen (took-part t left a part from p ls rules room e) (omega arith) (omega (arith, few-spares t left a rules))
+
+-- where a part may have one leaf more it has neither a t nor an A: each letter is a leaf
+lettered : (t : Items) (left : ℕ) (a : Bool) (part : List ℕ) (from p : ℕ) (ls : List Leaf) → PartRules t left a → leasts t < mosts t
+    → partReads t part from ≡ upto p ls → length ls ≤ length (print t)
+unfolding itemReads PartRules mosts leasts print
+lettered end left a part from p ls k spare e = absurd (omega arith)
+lettered (more (value c v) t) left a part from p ls k spare e =
+    let w = one-leaf c (spanOf v part from) (λ q. partReads t part q) p ls e in
+    omega (arith, w .3, lettered t left a part (w .0) p (w .1) (k .2) (omega arith) (w .2))
+lettered (more rest t) left a part from p ls k spare e =
+    let w = one-leaf 68 (restOf part from) (λ q. partReads t part q) p ls e in
+    let nothing : w .1 ≡ [] = cc (w .2, ap (λ u. partReads u part (w .0)) (k .1 refl)) in
+    omega (arith, w .3, ap length nothing)
+lettered (more (struct u) t) left a part from p ls k spare e = absurd (omega (arith, few-spares t left a (k .2)))
+lettered (more (array u) t) left a part from p ls k spare e = absurd (omega (arith, ap mosts (k .1 refl)))
+
+-- no more leaves than octets, or than letters
+pub part-few : (t : Items) (left : ℕ) (a : Bool) (part : List ℕ) (from p : ℕ) (ls : List Leaf) (n : ℕ) → PartRules t left a → from ≤ length part
+    → partReads t part from ≡ upto p ls → length part ≤ n → length (print t) ≤ n → length ls ≤ n
+part-few t left a part from p ls n rules room e octets letters =
+    by-test (ltb (leasts t) (mosts t))
+    (λ spare. omega (arith, lettered t left a part from p ls rules (ltb-true (leasts t) (mosts t) spare) e))
+    (λ none. let g = took-part t left a part from p ls rules room e in omega (arith, g .within, g .few, ltb-false (leasts t) (mosts t) none))

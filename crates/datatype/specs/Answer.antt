@@ -14,6 +14,10 @@ use Rattle.datatype.specs.Reading.{Leaf, numbers, Reading, misfit, upto,
 abbrev pub maxPayload : ℕ
 maxPayload = 1300
 
+-- a list of so many numbers has room for the leaves of any payload: there are never more of them than octets of the longest
+abbrev pub maxNumbers : ℕ
+maxNumbers = 3 * maxPayload
+
 -- a refusal by its number, or leaves
 pub data Result : Type 0 where
   refused : ℕ → Result

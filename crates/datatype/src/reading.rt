@@ -18,11 +18,13 @@ ghost use Rattle.typestring.specs.Calls.{PartFrom, ItemFrom};
 ghost use Rattle.datatype.specs.Answer.{reported, reportOf, filled, answerTo};
 ghost use Rattle.datatype.specs.Calls.{Room, ReadsPart, ReadsItem, fillingTo};
 
-// A payload is a slice; this type only has its limit.
+// A payload is a slice; this type only has its limits.
 pub struct Payload {}
 
 impl Payload {
     pub const MAX_OCTETS: usize = 1300;
+    // A list of so many numbers has room for the leaves of any payload: there are never more of them than octets of the longest.
+    pub const MAX_NUMBERS: usize = 3 * Payload::MAX_OCTETS;
 }
 
 // What the public call answers, with 01's number of each.
