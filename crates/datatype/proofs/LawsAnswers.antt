@@ -8,6 +8,7 @@ use native.Mathlib.Nat.{zero-add}
 use borrow.Author.Tests.{lt-ltb, le-ltb}
 use lib.ListN.{length, drop}
 use lib.Seq.{sets, sets-eq}
+use Rattle.octets.proofs.LawsTests.{impossible}
 use Rattle.typestring.specs.Grammar.{Items, maxOpen, maxOctets}
 use Rattle.typestring.specs.Parse.{Parsed, malformed, parsed, typeOf, isType}
 use Rattle.typestring.specs.Calls.{PartFrom}
@@ -35,7 +36,7 @@ answers-malformed types payload list e = go (typeOf types) e
     go : (p : Parsed) → isType p ≡ false
         → (reported answer.Malformed ≡ reportOf (result p payload (length list))) × (list ≡ filled list (result p payload (length list)))
     go malformed e = (refl, refl)
-    go (parsed t s) e = let z : _≡_ {A = ℕ} 0 1 = cc in absurd (omega arith)
+    go (parsed t s) e = impossible cc
 
 -- a refusal leaves the list as it was
 refuses : (types payload list list′ : List ℕ) (a : Answer) (n : ℕ) → result (typeOf types) payload (length list) ≡ refused n → list′ ≡ list

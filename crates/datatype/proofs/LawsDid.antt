@@ -1,12 +1,12 @@
 -- An answer of the reader, the reading that it stands for and the numbers in the list.
 use mathlib.Core.Path.{_≡_, refl, ap, _∙_}
 use mathlib.Core.List.{List, [], _∷_, _++_}
-use Prim.Native.Nat.{ℕ, _+_, _-_, _*_}
+use Prim.Native.Nat.{ℕ, _+_, _*_}
 use native.Mathlib.Omega.{arith}
 use lib.Dec.{eqb}
 use lib.ListN.{length, length-append}
 use lib.Seq.{sets}
-use Rattle.octets.proofs.LawsTests.{by-test}
+use Rattle.octets.proofs.LawsTests.{by-test, impossible}
 use Rattle.octets.proofs.LawsRuns.{each-append}
 use Rattle.octets.proofs.LawsWriting.{sets-append}
 use Rattle.datatype.specs.declared.list.Read.{Read}
@@ -26,11 +26,11 @@ length-numbers (l ∷ ls) = omega (arith, length-numbers ls)
 -- what an answer tells of the reading
 pub did-misfit : (m : Reading) (l l′ : List ℕ) (k : ℕ) → Did m l l′ k read.Misfit → m ≡ misfit
 did-misfit misfit l l′ k d = refl
-did-misfit (upto p ls) l l′ k d = let z : _≡_ {A = ℕ} 0 1 = cc (d .0) in absurd (omega arith)
+did-misfit (upto p ls) l l′ k d = impossible (cc (d .0))
 
 pub did-upto : (m : Reading) (l l′ : List ℕ) (k p n : ℕ) → Did m l l′ k (read.Upto p n)
     → (ls : List Leaf) × (m ≡ upto p ls) × (n ≡ k + length ls) × (l′ ≡ sets l (3 * k) (numbers ls))
-did-upto misfit l l′ k p n d = let z : _≡_ {A = ℕ} 0 1 = cc d in absurd (omega arith)
+did-upto misfit l l′ k p n d = impossible (cc d)
 did-upto (upto q ls) l l′ k p n d = (ls, cc (d .0), cc (d .0), d .1)
 
 -- what is left of a reading, with the list and the leaves so far, gives its answer

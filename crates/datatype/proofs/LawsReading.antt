@@ -1,18 +1,15 @@
 -- Laws of readings: what two in a row, contents and elements give.
 use mathlib.Core.Path.{_≡_, refl, sym, ap, _∙_}
 use mathlib.Core.List.{List, [], _∷_, _++_}
-use Prim.Native.Nat.{ℕ, zero, suc, _+_, _-_, _≤_, _<_}
+use Prim.Native.Nat.{ℕ, zero, suc, _-_, _≤_, _<_}
 use native.Mathlib.Omega.{arith}
 use borrow.Author.Tests.{eqb-true, lt-ltb, le-ltb}
 use lib.Dec.{eqb, ltb}
 use lib.ListN.{length}
-use Rattle.octets.proofs.LawsTests.{by-test}
+use Rattle.octets.proofs.LawsTests.{by-test, impossible}
 use Rattle.datatype.specs.declared.leaf.Span.{Span}
 use Rattle.datatype.specs.declared.leaf.Span.the-variants as span
 use Rattle.datatype.specs.Reading.{Leaf, leafOf, Reading, misfit, upto, prefixed, andThen, filling, leafReads, contents, elements}
-
-never : {P : Type 0} {p : ℕ} {ls : List Leaf} → misfit ≡ upto p ls → P
-never e = let z : _≡_ {A = ℕ} 0 1 = cc in absurd (omega arith)
 
 -- ---- readings taken apart
 
@@ -20,26 +17,26 @@ never e = let z : _≡_ {A = ℕ} 0 1 = cc in absurd (omega arith)
 pub both-fit : (m : Reading) (go : ℕ → Reading) (p : ℕ) (ls : List Leaf) → andThen m go ≡ upto p ls
     → (q : ℕ) × (ms : List Leaf) × (ns : List Leaf) × (m ≡ upto q ms) × (go q ≡ upto p ns) × (ls ≡ ms ++ ns)
 unfolding andThen prefixed
-both-fit misfit go p ls e = never e
+both-fit misfit go p ls e = impossible cc
 both-fit (upto q ms) go p ls e = second (go q) refl e
   where
     second : (n : Reading) → go q ≡ n → prefixed ms n ≡ upto p ls
         → (q′ : ℕ) × (ms′ : List Leaf) × (ns : List Leaf) × (upto q ms ≡ upto q′ ms′) × (go q′ ≡ upto p ns) × (ls ≡ ms′ ++ ns)
-    second misfit e f = never f
+    second misfit e f = impossible cc
     second (upto p′ ns) e f = (q, ms, ns, refl, cc, cc)
 
 pub filling-fit : (stop : ℕ) (m : Reading) (p : ℕ) (ls : List Leaf) → filling stop m ≡ upto p ls → (m ≡ upto p ls) × (p ≡ stop)
 unfolding filling
-filling-fit stop misfit p ls e = never e
+filling-fit stop misfit p ls e = impossible cc
 filling-fit stop (upto q ms) p ls e =
     by-test (eqb q stop)
     (λ t. let e′ = rw t at e in let same : q ≡ p = cc in (e′, sym same ∙ eqb-true q stop t))
-    (λ t. never (rw t at e))
+    (λ t. impossible (cc (rw t at e)))
 
 pub leaf-fit : (c : ℕ) (s : Span) (p : ℕ) (ls : List Leaf) → leafReads c s ≡ upto p ls
     → (start : ℕ) × (size : ℕ) × (s ≡ span.At start size p) × (ls ≡ leafOf c start size ∷ [])
 unfolding leafReads
-leaf-fit c span.Misfit p ls e = never e
+leaf-fit c span.Misfit p ls e = impossible cc
 leaf-fit c (span.At start size next) p ls e = (start, size, cc, cc)
 
 pub one-leaf : (c : ℕ) (s : Span) (go : ℕ → Reading) (p : ℕ) (ls : List Leaf) → andThen (leafReads c s) go ≡ upto p ls
@@ -52,7 +49,7 @@ one-leaf c s go p ls e =
 pub contents-fit : (s : Span) (go : ℕ → ℕ → Reading) (p : ℕ) (ls : List Leaf) → contents s go ≡ upto p ls
     → (start : ℕ) × (size : ℕ) × (s ≡ span.At start size p) × (go start p ≡ upto p ls)
 unfolding contents
-contents-fit span.Misfit go p ls e = never e
+contents-fit span.Misfit go p ls e = impossible cc
 contents-fit (span.At start size next) go p ls e =
     let w = filling-fit next (go start next) p ls e in
     (start, size, ap (span.At start size) (sym (w .1)), rw (← (w .1)) at (w .0))

@@ -11,7 +11,7 @@ use lib.ListN.{length, getD, take, drop, length-drop}
 use lib.Seq.{take-append-seam, getD-drop}
 use Rattle.octets.specs.Octets.{Octets}
 use Rattle.octets.proofs.LawsLists.{octets-drop}
-use Rattle.octets.proofs.LawsTests.{by-test}
+use Rattle.octets.proofs.LawsTests.{by-test, impossible}
 use Rattle.packed.specs.Packed.{packed, packedIn, joined, numberIn, packedAt, maxPacked}
 use Rattle.packed.specs.declared.Packed.{Packed}
 use Rattle.packed.specs.declared.Packed.the-variants.{Number, Unreadable}
@@ -24,22 +24,19 @@ pub record Spelled (xs : List ℕ) (at n next : ℕ) : Type 0 where
   pub inside : next ≤ length xs
   pub octets : take (length (packed n)) (drop at xs) ≡ packed n
 
-never : {P : Type 0} {n next : ℕ} → Unreadable ≡ Number n next → P
-never e = let z : _≡_ {A = ℕ} 0 1 = cc in absurd (omega arith)
-
 -- a number that is joined is joined from one that is not 0
 from-joined : {P : Type 0} (low scale n next : ℕ) (r : Packed) → joined low scale r ≡ Number n next
     → ((m : ℕ) → r ≡ Number m next → (m ≡ 0 → ⊥) → low + scale * m ≡ n → P) → P
 unfolding joined
-from-joined low scale n next Unreadable e go = never e
+from-joined low scale n next Unreadable e go = impossible cc
 from-joined low scale n next (Number m to) e go =
-    by-test (eqb m 0) (λ t. never (rw t at e)) (λ t. let e' = rw t at e in go m (cc) (eqb-false m 0 t) (cc))
+    by-test (eqb m 0) (λ t. impossible (cc (rw t at e))) (λ t. let e' = rw t at e in go m (cc) (eqb-false m 0 t) (cc))
 
 -- a reading goes on, and stays within its octets
 placed : (k at n next : ℕ) (xs : List ℕ) → numberIn k at xs ≡ Number n next → (at < next) × (next ≤ at + length xs)
 unfolding numberIn
-placed zero at n next xs e = never e
-placed (suc k) at n next [] e = never e
+placed zero at n next xs e = impossible cc
+placed (suc k) at n next [] e = impossible cc
 placed (suc k) at n next (x ∷ xs) e =
     by-test (ltb x 128)
     (λ t. let e' = rw t at e in
@@ -56,8 +53,8 @@ place-after xs at n next e = let p = placed 3 at n next (drop at xs) e in omega 
 spelled : (k at n next : ℕ) (xs : List ℕ) → Octets xs → numberIn k at xs ≡ Number n next
     → (n < 128 ^ k) × (next ≡ at + length (packedIn k n)) × (packedIn k n ++ drop (length (packedIn k n)) xs ≡ xs)
 unfolding numberIn
-spelled zero at n next xs o e = never e
-spelled (suc k) at n next [] o e = never e
+spelled zero at n next xs o e = impossible cc
+spelled (suc k) at n next [] o e = impossible cc
 spelled (suc k) at n next (x ∷ xs) o e =
     by-test (ltb x 128)
     (λ t. let e' = rw t at e in
@@ -88,8 +85,8 @@ one-spelling xs at n next o e =
 
 first-octet : (k at n next : ℕ) (xs : List ℕ) → numberIn k at xs ≡ Number n next → n < 128 → (getD xs 0 0 ≡ n) × (next ≡ at + 1)
 unfolding numberIn
-first-octet zero at n next xs e h = never e
-first-octet (suc k) at n next [] e h = never e
+first-octet zero at n next xs e h = impossible cc
+first-octet (suc k) at n next [] e h = impossible cc
 first-octet (suc k) at n next (x ∷ xs) e h =
     by-test (ltb x 128)
     (λ t. let e' = rw t at e in (cc, cc))

@@ -8,23 +8,17 @@ use native.Mathlib.Omega.{arith}
 use borrow.Author.Tests.{eqb-true, ltb-false, le-ltb}
 use lib.Dec.{eqb, ltb}
 use lib.ListN.{length}
-use Rattle.octets.proofs.LawsTests.{by-test}
+use Rattle.octets.proofs.LawsTests.{by-test, impossible}
 use Rattle.typestring.specs.declared.kind.ItemKind.{ItemKind}
 use Rattle.typestring.specs.declared.kind.ItemKind.the-variants as kind
 use Rattle.typestring.specs.Kind.{kindOf}
-use Rattle.typestring.specs.Grammar.{Item, Items, value, rest, struct, array, end, more, print, printItem, final, Some, ItemRules, PartRules, TypeString}
+use Rattle.typestring.specs.Grammar.{Item, Items, value, rest, struct, array, end, more, print, printItem, final, Some, ItemRules, PartRules, TypeString, maxOpen, maxOctets}
 use Rattle.typestring.specs.Parse.{Parsed, malformed, parsed, Head, no-item, one, endsPart, passed, inside, headed, itemOf, itemIn, joined, follow, partIn, partAt, itemAt, whole, typeOf, isType}
 use Rattle.typestring.proofs.LawsKinds.{letter-of}
 use Rattle.typestring.proofs.LawsGrammar.{bracket-shut, end-shut, item-open}
 use Rattle.typestring.proofs.LawsParse.{part-step}
 
 -- ---- sound
-
-never : {P : Type 0} {t : Items} {r : List ℕ} → malformed ≡ parsed t r → P
-never e = let z : _≡_ {A = ℕ} 0 1 = cc in absurd (omega arith)
-
-none : {P : Type 0} {i : Item} {r : List ℕ} → no-item ≡ one i r → P
-none e = let z : _≡_ {A = ℕ} 0 1 = cc in absurd (omega arith)
 
 -- what a part that was found says of the octets
 abbrev PartIs : ℕ → Bool → List ℕ → Items → List ℕ → Type 0
@@ -40,12 +34,11 @@ ItemIs left a s i r = (s ≡ printItem i ++ r) × ItemRules i left a
 passing : (left : ℕ) (a : Bool) (c : ℕ) (s : List ℕ) (t : Items) (r : List ℕ) (p : Parsed) → c ≡ 40 → endsPart s ≡ false
     → ((u : Items) (q : List ℕ) → p ≡ parsed u q → PartIs left a s u q) → passed p ≡ parsed t r → Brackets (suc left) a (c ∷ s) t r
 unfolding passed endsPart print
-passing left a c s t r malformed bracket some sound e = never e
-passing left a c s t r (parsed u []) bracket some sound e = never e
+passing left a c s t r malformed bracket some sound e = impossible cc
+passing left a c s t r (parsed u []) bracket some sound e = impossible cc
 passing left a c s t r (parsed end (d ∷ q)) bracket some sound e =
     let w = sound end (d ∷ q) refl in
-    let z : true ≡ false = sym (w .2) ∙ ap endsPart (sym (w .0)) ∙ some in
-    let z′ : _≡_ {A = ℕ} 0 1 = cc in absurd (omega arith)
+    impossible (cc (w .2, ap endsPart (w .0)))
 passing left a c s t r (parsed (more i u) (d ∷ q)) bracket some sound e =
     let w = sound (more i u) (d ∷ q) refl in
     let tree : more i u ≡ t = cc in
@@ -58,15 +51,15 @@ module _ (part : ℕ → Bool → List ℕ → Parsed)
     (sound-part : (left : ℕ) (a : Bool) (s : List ℕ) (t : Items) (r : List ℕ) → part left a s ≡ parsed t r → PartIs left a s t r) where
   sound-inside : (left : ℕ) (a : Bool) (s : List ℕ) (t : Items) (r : List ℕ) → inside part left a s ≡ parsed t r → Brackets left a s t r
   unfolding inside
-  sound-inside zero a s t r e = never e
-  sound-inside (suc left) a [] t r e = never e
+  sound-inside zero a s t r e = impossible cc
+  sound-inside (suc left) a [] t r e = impossible cc
   sound-inside (suc left) a (c ∷ s) t r e =
       by-test (eqb c 40)
       (λ bracket. let e₁ = rw bracket at e in
       by-test (endsPart s)
-      (λ empty. never (rw empty at e₁))
+      (λ empty. impossible (cc (rw empty at e₁)))
       (λ some. passing left a c s t r (part left a s) (eqb-true c 40 bracket) some (λ u q. sound-part left a s u q) (rw some at e₁)))
-      (λ other. never (rw other at e))
+      (λ other. impossible (cc (rw other at e)))
 
   sound-headed : (item : Items → Item) (left : ℕ) (a : Bool) (s : List ℕ) (i : Item) (r : List ℕ) → headed item (inside part left a s) ≡ one i r
       → (t : Items) × (i ≡ item t) × Brackets left a s t r
@@ -75,7 +68,7 @@ module _ (part : ℕ → Bool → List ℕ → Parsed)
     where
       go : (p : Parsed) → ((t : Items) (q : List ℕ) → p ≡ parsed t q → Brackets left a s t q) → headed item p ≡ one i r
           → (t : Items) × (i ≡ item t) × Brackets left a s t r
-      go malformed h e = none e
+      go malformed h e = impossible cc
       go (parsed t q) h e = let same : q ≡ r = cc in (t, cc, h t r (ap (parsed t) same))
 
   sound-kind : (left : ℕ) (a : Bool) (c : ℕ) (s : List ℕ) (i : Item) (r : List ℕ) (k : ItemKind) → kindOf c ≡ k → itemOf part k c left a s ≡ one i r
@@ -85,22 +78,22 @@ module _ (part : ℕ → Bool → List ℕ → Parsed)
       let item : value c v ≡ i = cc in
       let behind : s ≡ r = cc in
       rw (← item) (ap (λ q. c ∷ q) behind, h)
-  sound-kind left true c s i r kind.Rest h e = none e
+  sound-kind left true c s i r kind.Rest h e = impossible cc
   sound-kind left false c s i r kind.Rest h e =
       let item : rest ≡ i = cc in
       rw (← item) (cc (letter-of c kind.Rest h), refl)
   sound-kind left a c s i r kind.Struct h e =
       let w = sound-headed struct left false s i r e in
       rw (w .1) (cc (letter-of c kind.Struct h, w .2 .0, append-assoc (print (w .0)) (41 ∷ []) r), (w .2 .1, w .2 .2, w .2 .3))
-  sound-kind left true c s i r kind.Array h e = none e
+  sound-kind left true c s i r kind.Array h e = impossible cc
   sound-kind left false c s i r kind.Array h e =
       let w = sound-headed array left true s i r e in
       rw (w .1) (cc (letter-of c kind.Array h, w .2 .0, append-assoc (print (w .0)) (41 ∷ []) r), (refl, w .2 .1, w .2 .2, w .2 .3))
-  sound-kind left a c s i r kind.Other h e = none e
+  sound-kind left a c s i r kind.Other h e = impossible cc
 
   sound-item : (left : ℕ) (a : Bool) (s : List ℕ) (i : Item) (r : List ℕ) → itemIn part left a s ≡ one i r → ItemIs left a s i r
   unfolding itemIn
-  sound-item left a [] i r e = none e
+  sound-item left a [] i r e = impossible cc
   sound-item left a (c ∷ s) i r e = sound-kind left a c s i r (kindOf c) refl e
 
 ended : (left : ℕ) (a : Bool) (s : List ℕ) (t : Items) (r : List ℕ) → endsPart s ≡ true → parsed end s ≡ parsed t r → PartIs left a s t r
@@ -113,19 +106,19 @@ ended left a s t r shut e =
 joining : (left : ℕ) (a : Bool) (s : List ℕ) (t : Items) (r : List ℕ) (i : Item) (q : List ℕ) (p : Parsed) → final i ≡ false → ItemIs left a s i q
     → ((u : Items) → p ≡ parsed u r → PartIs left a q u r) → joined i p ≡ parsed t r → PartIs left a s t r
 unfolding joined print PartRules
-joining left a s t r i q malformed plain item sound e = never e
+joining left a s t r i q malformed plain item sound e = impossible cc
 joining left a s t r i q (parsed u r′) plain item sound e =
     let tree : more i u ≡ t = cc in
     let behind : r′ ≡ r = cc in
     let w = sound u (ap (parsed u) behind) in
-    let never-final : final i ≡ true → u ≡ end = λ f. let z : true ≡ false = sym f ∙ plain in let z′ : _≡_ {A = ℕ} 0 1 = cc in absurd (omega arith) in
+    let never-final : final i ≡ true → u ≡ end = λ f. impossible cc in
     rw (← tree) (cc (item .0, w .0, append-assoc (printItem i) (print u) r), (item .1, never-final, w .1), w .2)
 
 followed : (left : ℕ) (a : Bool) (s : List ℕ) (t : Items) (r : List ℕ) (part : List ℕ → Parsed) (h : Head)
     → ((q : List ℕ) (u : Items) → part q ≡ parsed u r → PartIs left a q u r) → ((i : Item) (q : List ℕ) → h ≡ one i q → ItemIs left a s i q)
     → follow part h ≡ parsed t r → PartIs left a s t r
 unfolding follow print PartRules
-followed left a s t r part no-item sound item e = never e
+followed left a s t r part no-item sound item e = impossible cc
 followed left a s t r part (one i q) sound item e =
     by-test (final i)
     (λ last. let e₁ = rw last at e in
@@ -135,12 +128,12 @@ followed left a s t r part (one i q) sound item e =
     let tree : more i end ≡ t = cc in
     let behind : q ≡ r = cc in
     rw (← tree, ← behind, append-nil) (w .0, (w .1, (λ f. refl), tt), shut))
-    (λ going. never (rw going at e₁)))
+    (λ going. impossible (cc (rw going at e₁))))
     (λ plain. joining left a s t r i q (part q) plain (item i q refl) (sound q) (rw plain at e))
 
 sound-part : (n left : ℕ) (a : Bool) (s : List ℕ) (t : Items) (r : List ℕ) → partIn n left a s ≡ parsed t r → PartIs left a s t r
 unfolding partIn
-sound-part zero left a s t r e = never e
+sound-part zero left a s t r e = impossible cc
 sound-part (suc n) left a s t r e =
     by-test (endsPart s)
     (λ shut. ended left a s t r shut (rw shut at e))
@@ -148,12 +141,12 @@ sound-part (suc n) left a s t r e =
     followed left a s t r (partIn n left a) (itemIn (partIn n) left a s) (λ q u. sound-part n left a q u r)
     (sound-item (partIn n) (sound-part n) left a s) (rw going at e))
 
-whole-sound : (types : List ℕ) (t : Items) (r : List ℕ) (p : Parsed) → length types ≤ 64
-    → ((u : Items) (q : List ℕ) → p ≡ parsed u q → PartIs 4 false types u q)
+whole-sound : (types : List ℕ) (t : Items) (r : List ℕ) (p : Parsed) → length types ≤ maxOctets
+    → ((u : Items) (q : List ℕ) → p ≡ parsed u q → PartIs maxOpen false types u q)
     → whole p ≡ parsed t r → TypeString types t
 unfolding whole
-whole-sound types t r malformed few sound e = never e
-whole-sound types t r (parsed u (c ∷ q)) few sound e = never e
+whole-sound types t r malformed few sound e = impossible cc
+whole-sound types t r (parsed u (c ∷ q)) few sound e = impossible cc
 whole-sound types t r (parsed u []) few sound e =
     let w = sound u [] refl in
     let tree : u ≡ t = cc in
@@ -162,9 +155,11 @@ whole-sound types t r (parsed u []) few sound e =
 pub sound : (types : List ℕ) (t : Items) (r : List ℕ) → typeOf types ≡ parsed t r → TypeString types t
 unfolding typeOf partAt
 sound types t r e =
-    by-test (ltb 64 (length types))
-    (λ long. never (rw long at e))
-    (λ short. whole-sound types t r (partAt 4 false types) (ltb-false 64 (length types) short) (sound-part (suc (length types)) 4 false types) (rw short at e))
+    by-test (ltb maxOctets (length types))
+    (λ long. impossible (cc (rw long at e)))
+    (λ short.
+    whole-sound types t r (partAt maxOpen false types) (ltb-false maxOctets (length types) short) (sound-part (suc (length types)) maxOpen false types)
+    (rw short at e))
 
 -- ---- complete
 
@@ -202,8 +197,8 @@ mutual
 pub complete : (types : List ℕ) (t : Items) → TypeString types t → typeOf types ≡ parsed t []
 unfolding typeOf whole
 complete types t w =
-    let few : length (print t) ≤ 64 = rw (w .printed) (w .short) in
-    rw (← (w .printed), le-ltb 64 (length (print t)) few, ← append-nil (print t), found-part t 4 false [] (w .rules) end-shut)
+    let few : length (print t) ≤ maxOctets = rw (w .printed) (w .short) in
+    rw (← (w .printed), le-ltb maxOctets (length (print t)) few, ← append-nil (print t), found-part t maxOpen false [] (w .rules) end-shut)
 
 -- so each string has one tree
 pub one-tree : (types : List ℕ) (t u : Items) → TypeString types t → TypeString types u → t ≡ u
@@ -216,5 +211,5 @@ pub accepted : (types : List ℕ) → isType (typeOf types) ≡ true → (t : It
 accepted types e = go (typeOf types) (sound types) e
   where
     go : (p : Parsed) → ((t : Items) (r : List ℕ) → p ≡ parsed t r → TypeString types t) → isType p ≡ true → (t : Items) × TypeString types t
-    go malformed h e = let z : _≡_ {A = ℕ} 0 1 = cc in absurd (omega arith)
+    go malformed h e = impossible cc
     go (parsed t r) h e = (t, h t r refl)

@@ -11,7 +11,7 @@ use borrow.Author.Tests.{ne-eqb}
 use lib.Dec.{eqb}
 use lib.ListN.{length, getD, drop, length-append, length-drop}
 use Rattle.octets.proofs.LawsLists.{drop-next}
-use Rattle.octets.proofs.LawsTests.{by-test}
+use Rattle.octets.proofs.LawsTests.{by-test, impossible}
 use Rattle.typestring.specs.declared.kind.ItemKind.{ItemKind}
 use Rattle.typestring.specs.declared.kind.ItemKind.the-variants as kind
 use Rattle.typestring.specs.declared.kind.Value.{Value}
@@ -125,22 +125,19 @@ tag-single kind.Struct o = absurd (miss (0 ∷ 1 ∷ 4 ∷ []) 2 tt o)
 tag-single kind.Array o = absurd (miss (0 ∷ 1 ∷ 4 ∷ []) 3 tt o)
 tag-single kind.Other o = refl
 
-clash : {P : Type 0} → true ≡ false → P
-clash e = let z : _≡_ {A = ℕ} 0 1 = cc in absurd (omega arith)
-
 single : (i : Item) → bracketed (kindIs i) ≡ false → length (printItem i) ≡ 1
 unfolding printItem
 single (value letter v) e = refl
 single rest e = refl
-single (struct t) e = clash e
-single (array t) e = clash e
+single (struct t) e = impossible cc
+single (array t) e = impossible cc
 
 module _ (xs : List ℕ) (at : ℕ) where
   inside : (i : Item) (depth : ℕ) → ItemFrom (drop at xs) depth i → bracketed (kindIs i) ≡ true
       → (t : Items) × InBrackets (drop (at + 2) xs) t × (length (printItem i) ≡ length (print t) + 3)
   unfolding printItem ItemRules
-  inside (value letter v) depth f e = clash (sym e)
-  inside rest depth f e = clash (sym e)
+  inside (value letter v) depth f e = impossible cc
+  inside rest depth f e = impossible cc
   inside (struct t) depth f e = (
     t,
     record { depth = depth - 1; inArray = false; behind = f .behind; printed = inner-printed xs at 116 t (f .behind) (f .printed); rules = f .rules .2 },

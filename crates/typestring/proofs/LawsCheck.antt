@@ -8,7 +8,7 @@ use borrow.Author.Tests.{eq-eqb, ne-eqb, eqb-true, eqb-false, ltb-true, ltb-fals
 use lib.Dec.{eqb, ltb}
 use lib.ListN.{length, getD, drop, drop-of-length-le}
 use Rattle.octets.proofs.LawsLists.{drop-next}
-use Rattle.octets.proofs.LawsTests.{by-test}
+use Rattle.octets.proofs.LawsTests.{by-test, impossible}
 use Rattle.typestring.specs.declared.kind.ItemKind.{ItemKind}
 use Rattle.typestring.specs.declared.check.Scan.{Scan}
 use Rattle.typestring.specs.declared.check.Scan.the-variants as scan
@@ -30,8 +30,7 @@ unfolding endsPart
 more-left types at e =
     by-test (ltb at (length types))
     (λ l. ltb-true at (length types) l)
-    (λ l. let none : false ≡ true = e ∙ ap endsPart (drop-of-length-le types {i = at} (ltb-false at (length types) l)) in
-    let z : _≡_ {A = ℕ} 0 1 = cc in absurd (omega arith))
+    (λ l. impossible (cc (ap endsPart (drop-of-length-le types {i = at} (ltb-false at (length types) l)))))
 
 -- the brackets at an octet, where one more may be opened
 abbrev opened : ℕ → Bool → ℕ → List ℕ → Parsed

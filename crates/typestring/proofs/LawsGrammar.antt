@@ -3,8 +3,8 @@ use mathlib.Core.Path.{_≡_, refl}
 use mathlib.Core.Bool.{Bool, true, false}
 use mathlib.Core.List.{List, [], _∷_, _++_}
 use Prim.Native.Nat.{ℕ}
-use native.Mathlib.Omega.{arith}
 use borrow.Author.Tests.{ne-eqb}
+use Rattle.octets.proofs.LawsTests.{impossible}
 use Rattle.typestring.specs.declared.kind.Value.{Value}
 use Rattle.typestring.specs.declared.kind.ItemKind.the-variants as kind
 use Rattle.typestring.specs.Kind.{kindOf}
@@ -21,7 +21,7 @@ end-shut = refl
 
 -- a letter is no bracket
 pub no-bracket : (letter b : ℕ) (v : Value) → kindOf letter ≡ kind.Value v → kindOf b ≡ kind.Other → letter ≡ b → ⊥
-no-bracket letter b v k o e = let z : _≡_ {A = ℕ} 0 1 = cc in omega arith
+no-bracket letter b v k o e = impossible cc
 
 -- no part ends where an item stands
 pub item-open : (i : Item) (left : ℕ) (inArray : Bool) (r : List ℕ) → ItemRules i left inArray → endsPart (printItem i ++ r) ≡ false

@@ -7,6 +7,7 @@ use native.Mathlib.Omega.{arith}
 use lib.ListN.{length, getD, drop, length-append, length-drop}
 use lib.Seq.{drop-append-seam, drop-drop}
 use Rattle.octets.proofs.LawsLists.{front}
+use Rattle.octets.proofs.LawsTests.{impossible}
 use Rattle.typestring.specs.declared.kind.ItemKind.{ItemKind}
 use Rattle.typestring.specs.declared.kind.ItemKind.the-variants as kind
 use Rattle.typestring.specs.declared.kind.Value.{Value}
@@ -25,13 +26,13 @@ part-ended s depth end shut w = refl
 part-ended s depth (more i t) shut w =
     let e : s ≡ printItem i ++ (print t ++ w .behind) = w .printed ∙ append-assoc (printItem i) (print t) (w .behind) in
     let going : endsPart s ≡ false = rw e (item-open i depth false (print t ++ w .behind) (w .rules .0)) in
-    let z : _≡_ {A = ℕ} 0 1 = cc in absurd (omega arith)
+    impossible cc
 
 -- elsewhere it has an item, and what is left of the part behind it
 pub part-item : (s : List ℕ) (depth : ℕ) (t : Items) → endsPart s ≡ false → PartFrom s depth t
     → (i : Item) × (u : Items) × (t ≡ more i u) × ItemFrom s depth i × PartFrom (drop (length (printItem i)) s) depth u
 unfolding print PartRules
-part-item s depth end going w = let z : _≡_ {A = ℕ} 0 1 = cc (w .printed, w .ends) in absurd (omega arith)
+part-item s depth end going w = impossible (cc (w .printed, w .ends))
 part-item s depth (more i u) going w =
     let e : s ≡ printItem i ++ (print u ++ w .behind) = w .printed ∙ append-assoc (printItem i) (print u) (w .behind) in (
       i,
