@@ -1,2 +1,2 @@
-pub mod LawsReadBack
 pub mod LawsTurns
+pub mod LawsServing

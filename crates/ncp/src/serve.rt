@@ -1,90 +1,114 @@
-// Standard input and output around the box. No contract can say what is read or written there; it is run and compared.
+// Standard input and output around the box. Which octets come in, and that the lines go out, is the operating system's part: no contract can
+// say it, and it is run and compared.
 use crate::turn::Turn;
 use crate::turn::receive_line;
 use device::Device;
 use hdlc::Reader;
 use libc::STDIN_FILENO;
 use libc::STDOUT_FILENO;
+ghost use mathlib.Core.Bool.{true, false};
+ghost use mathlib.Core.Path.{_≡_};
 ghost use Prim.Native.Nat.{_≤_};
 ghost use lib.ListN.{length};
-ghost use Rattle.ncp.specs.Turn.{received, GoesOn};
+ghost use Rattle.hdlc.specs.Reader.{maxGathered};
+ghost use Rattle.device.specs.Rules.{rules};
+ghost use Rattle.ncp.specs.Serve.{stateOf, keeps, start, gives, next, chunkLeaves, Served};
 
 // The box and its reader between two calls.
-struct Session {
-    device: Device,
-    reader: Reader,
-    // How many octets were read last. 0 ends the program: the input ended, a line could not be written, or a call was refused, which
-    // serial's `faithful` and the size of the two buffers rule out.
+pub struct Session {
+    pub device: Device,
+    pub reader: Reader,
+    // A line could not be written. This ends the program.
+    pub stopped: bool,
+}
+
+// A session after some octets of its input.
+struct Progress {
+    session: Session,
+    // How many octets were read last.
     read: usize,
 }
 
 // One call, and its line.
-fn serve_call(session: Session, input: &[u8], assembly: &mut [u8]) -> Session
-    ensures read { λ s. ⌜ s .read ≤ length (now (input .entry)) ⌝ }
-    ensures state { λ s. ⌜ GoesOn (received (session .device) (session .reader) (now (input .entry)) (now (assembly .entry))) s (now (assembly .exit)) ⌝ }
+fn serve_call(session: Session, input: &[u8], assembly: &mut [u8]) -> Progress
+    ensures read { λ p. ⌜ p .read ≡ gives (stateOf session (now (assembly .entry))) (now (input .entry)) .read ⌝ }
+    ensures state { λ p. ⌜ stateOf (p .session) (now (assembly .exit)) ≡ next (stateOf session (now (assembly .entry))) (now (input .entry)) ⌝ }
 {
     let mut line = [0u8; Turn::MAX_LINE];
     let turn = receive_line(session.device, session.reader, input, assembly, &mut line);
     let device = turn.device;
     let reader = turn.reader;
     let len = turn.len;
-    if io::write_all(STDOUT_FILENO, &line[..len]) {
-        return Session {
+    Progress {
+        session: Session {
             device,
             reader,
-            read: turn.read,
-        };
-    }
-    Session {
-        device,
-        reader,
-        read: 0,
+            stopped: !io::write_all(STDOUT_FILENO, &line[..len]),
+        },
+        read: turn.read,
     }
 }
 
 // Calls until the chunk is used up. Reader and assembly buffer go on into the next chunk.
-fn serve_chunk(session: Session, chunk: &[u8], assembly: &mut [u8]) -> Session {
+fn serve_chunk(session: Session, chunk: &[u8], assembly: &mut [u8]) -> Session
+    requires { ⌜ keeps (stateOf session (now assembly)) ⌝ }
+    ensures keeps { λ s. ⌜ keeps (stateOf s (now (assembly .exit))) ⌝ }
+    ensures state { λ s.
+        ⌜ (s .stopped ≡ false → stateOf s (now (assembly .exit)) ≡ chunkLeaves (stateOf session (now (assembly .entry))) (now (chunk .entry))) ⌝ }
+{
     let mut session = session;
     let mut rest = chunk;
     while 0 < rest.len() {
-        session = serve_call(session, rest, assembly);
-        let read = session.read;
-        if read == 0 {
+        let progress = serve_call(session, rest, assembly);
+        session = progress.session;
+        if session.stopped {
             return session;
         }
+        let read = progress.read;
         rest = &rest[read..];
     }
     session
 }
 
 // Takes what one read gives, so that no reply waits for more input.
-fn serve_read(session: Session, assembly: &mut [u8]) -> Session {
-    let mut session = session;
+fn serve_read(session: Session, assembly: &mut [u8]) -> Progress
+    requires { ⌜ keeps (stateOf session (now assembly)) ⌝ }
+    ensures keeps { λ p. ⌜ keeps (stateOf (p .session) (now (assembly .exit))) ⌝ }
+    ensures state { λ p. ⌜ Served (stateOf session (now (assembly .entry))) (p .session) (now (assembly .exit)) ⌝ }
+{
     let mut chunk = io::buffer();
     let got = libc::read(STDIN_FILENO, &mut chunk);
-    let len = io::count(got, &chunk);
-    // The end of the input, or a failed read.
-    if len == 0 {
-        session.read = 0;
-        return session;
+    // 0 at the end of the input, and where the read failed.
+    let read = io::count(got, &chunk);
+    Progress {
+        session: serve_chunk(session, &chunk[..read], assembly),
+        read,
     }
-    serve_chunk(session, &chunk[..len], assembly)
 }
 
 // A proved loop has to end, and nothing says that the input does. So the reads are counted down from 2^64 - 1, which takes 584 years at one
 // each nanosecond.
-pub fn serve(device: Device, assembly: &mut [u8]) {
+pub fn serve(device: Device, assembly: &mut [u8]) -> Session
+    requires rules { ⌜ rules device ≡ true ⌝ }
+    requires room { ⌜ maxGathered ≤ length (now assembly) ⌝ }
+    ensures { λ s. ⌜ Served (start device (now (assembly .entry))) s (now (assembly .exit)) ⌝ }
+{
     let mut session = Session {
         device,
         reader: Reader::fresh(),
-        read: 0,
+        stopped: false,
     };
     let mut reads = u64::MAX;
     while 0 < reads {
-        session = serve_read(session, assembly);
-        if session.read == 0 {
-            return;
+        let progress = serve_read(session, assembly);
+        session = progress.session;
+        if progress.read == 0 {
+            return session;
+        }
+        if session.stopped {
+            return session;
         }
         reads -= 1;
     }
+    session
 }

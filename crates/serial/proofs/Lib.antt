@@ -1,5 +1,6 @@
 pub mod LawsReceiving
 pub mod Framing
+pub mod GoesOn
 pub mod LawsHistories
 pub mod Faithful
 pub mod Separate

@@ -1,7 +1,8 @@
 -- The receiving call (01, Octets on the wire).
-use mathlib.Core.Bool.{Bool, cond, not, _&&_}
+use mathlib.Core.Bool.{Bool, true, cond, not, _&&_}
 use mathlib.Core.List.{List, [], _++_}
-use Prim.Native.Nat.{ℕ}
+use mathlib.Core.Path.{_≡_}
+use Prim.Native.Nat.{ℕ, _≤_}
 use lib.Dec.{eqb, ltb}
 use lib.ListN.{length, take, drop}
 use Rattle.frame.specs.Frame.{frame}
@@ -130,3 +131,9 @@ framed r out =
       assembly = r .assembly;
       output = xs ++ drop (length xs) out;
     }
+
+-- a box, a reader and an assembly buffer for which there is no refusal 11 or 12
+pub record Keeps (d : Device) (r : Reader) (a : List ℕ) : Type 0 where
+  pub device : rules d ≡ true
+  pub reader : readerRules r ≡ true
+  pub room : maxGathered ≤ length a
