@@ -21,16 +21,25 @@ use Rattle.property.specs.declared.row.Found.{Found}
 use Rattle.property.specs.declared.row.Found.the-variants.{At, Unknown}
 use Rattle.property.specs.declared.number.Number.{Number as Numeric}
 use Rattle.property.specs.Row.{rows, noRow, lookupIn, lookup, rowCount}
-use Rattle.property.specs.Number.{numbers, numberAt, powerState, within, slotCount}
+use Rattle.property.specs.Number.{numbers, ids, numberAt, powerState, interfaceUp, stackUp, within, slotCount}
 use Rattle.property.specs.Rule.{ofDevice, isShared, kindRule, rowRule, numberRule}
 
 pub rows-keep : (i : ℕ) → i < rowCount → rowRule (getD rows i noRow) ≡ true
-unfolding rows allBelow allFrom
+unfolding rows ids allBelow allFrom
 rows-keep i h = all-at rowCount (λ j. rowRule (getD rows j noRow)) refl i h
 
 pub numbers-keep : (slot : ℕ) → slot < slotCount → numberRule (numberAt slot) ≡ true
 unfolding numbers within allBelow allFrom
 numbers-keep slot h = all-at slotCount (λ k. numberRule (numberAt k)) refl slot h
+
+-- the two slots that a rule of the state names are 65's and 66's
+pub interface-is-65 : getD ids interfaceUp 0 ≡ 65
+unfolding ids
+interface-is-65 = refl
+
+pub stack-is-66 : getD ids stackUp 0 ≡ 66
+unfolding ids
+stack-is-66 = refl
 
 pub power-keeps : numberRule powerState ≡ true
 unfolding within

@@ -1,7 +1,7 @@
 -- 01, The property table: the numbers.
 use Prim.Native.Nat.{ℕ, _^_, _-_}
 use mathlib.Core.Bool.{Bool, true, false, cond}
-use mathlib.Core.List.{List, [], _∷_}
+use mathlib.Core.List.{List, [], _∷_, map}
 use lib.Dec.{ltb, leb}
 use lib.ListN.{getD}
 use Rattle.property.specs.declared.number.Number.{Number}
@@ -18,19 +18,25 @@ number width low high default = record { width = width; low = low; high = high; 
 abbrev pub slotCount : ℕ
 slotCount = 9
 
--- by slot
-unfoldable pub numbers : List Number
-numbers =
-    bool ∷  -- 32 PHY enabled
-    number 1 11 26 11 ∷  -- 33 channel
-    number 1 216 8 0 ∷  -- 37 transmit power, -40 to 8 (proofs/SignedRange.antt)
-    number 2 0 65535 65535 ∷  -- 54 PAN id
-    bool ∷  -- 65 interface up
-    bool ∷  -- 66 stack up
-    number 1 0 255 0 ∷  -- 94 Thread mode
-    number 4 0 4294967295 240 ∷  -- 5376 child timeout
-    number 2 0 65535 65534 ∷  -- 5377 RLOC16
+-- by slot, each with its property
+abbrev pub entries : List (ℕ × Number)
+entries =
+    (32, bool) ∷  -- PHY enabled
+    (33, number 1 11 26 11) ∷  -- channel
+    (37, number 1 216 8 0) ∷  -- transmit power, -40 to 8 (proofs/SignedRange.antt)
+    (54, number 2 0 65535 65535) ∷  -- PAN id
+    (65, bool) ∷  -- interface up
+    (66, bool) ∷  -- stack up
+    (94, number 1 0 255 0) ∷  -- Thread mode
+    (5376, number 4 0 4294967295 240) ∷  -- child timeout
+    (5377, number 2 0 65535 65534) ∷  -- RLOC16
     []
+
+unfoldable pub numbers : List Number
+numbers = map (λ e. e .1) entries
+
+unfoldable pub ids : List ℕ
+ids = map (λ e. e .0) entries
 
 -- 7 power state
 abbrev pub powerState : Number

@@ -3,6 +3,7 @@ use Prim.Native.Nat.{suc, _^_}
 use mathlib.Core.Bool.{Bool, true, false, cond, not, _&&_}
 use mathlib.Core.Path.{_≡_}
 use lib.Dec.{eqb, ltb, leb}
+use lib.ListN.{getD}
 use Rattle.property.specs.Status.{maxStatus}
 use Rattle.property.specs.declared.row.ReadOnly.{ReadOnly as Fixed}
 use Rattle.property.specs.declared.row.ReadOnly.the-variants.{LastStatus, ProtocolVersion, VersionText, InterfaceType, Vendor, Capabilities, InterfaceCount, HardwareAddress}
@@ -14,7 +15,7 @@ use Rattle.property.specs.declared.row.Row.{Row}
 use Rattle.property.specs.declared.row.Found.{Found}
 use Rattle.property.specs.declared.row.Found.the-variants.{At, Unknown}
 use Rattle.property.specs.declared.number.Number.{Number as Numeric}
-use Rattle.property.specs.Number.{within, slotCount}
+use Rattle.property.specs.Number.{ids, within, slotCount}
 
 abbrev pub ofDevice : Scope → Bool
 ofDevice scope.Device = true
@@ -39,11 +40,12 @@ isShared (Number slot) = false
 isShared Name = false
 isShared Ports = false
 
--- what is read only is not set, the power state is 7, a slot is one of a link's nine, and only ports are inserted and removed
+-- what is read only is not set, the power state is 7, a slot is one of a link's nine and its property is the row's, and only ports are
+-- inserted and removed
 abbrev pub kindRule : Kind → Row → Bool
 kindRule (ReadOnly f) r = not (r .set) && not (r .items)
 kindRule Power r = eqb (r .id) 7 && not (r .items)
-kindRule (Number slot) r = ltb slot slotCount && not (r .items)
+kindRule (Number slot) r = ltb slot slotCount && (eqb (r .id) (getD ids slot 0) && not (r .items))
 kindRule Name r = not (r .items)
 kindRule Ports r = true
 
