@@ -1,17 +1,20 @@
 -- Laws of the rules that more than one proof asks for.
-use mathlib.Core.Path.{_≡_, sym}
+use mathlib.Core.Path.{_≡_, refl, sym}
 use mathlib.Core.Bool.{true}
 use mathlib.Core.List.{List}
-use Prim.Native.Nat.{ℕ, _≤_}
-use borrow.Author.Tests.{eq-eqb, le-leb, leb-true}
-use lib.ListN.{length, take}
+use Prim.Native.Nat.{ℕ, _≤_, _<_}
+use borrow.Author.Tests.{eq-eqb, eqb-true, le-leb, leb-true}
+use lib.Dec.{eqb}
+use lib.ListN.{length, getD, take}
 use lib.Seq.{length-take-le}
 use Rattle.octets.specs.Padding.{pad}
+use Rattle.octets.specs.Scanning.{allFrom, allBelow}
 use Rattle.octets.proofs.LawsTests.{both-told}
+use Rattle.octets.proofs.LawsScanning.{all-at}
 use Rattle.octets.proofs.LawsPadding.{pad-length, pad-front, pad-zeros}
-use Rattle.property.specs.Number.{slotCount}
+use Rattle.property.specs.Number.{numbers, numberAt, slotCount}
 use Rattle.device.specs.declared.state.Link.{Link}
-use Rattle.device.specs.State.{maxHeld}
+use Rattle.device.specs.State.{defaults, maxHeld}
 use Rattle.device.specs.Text.{isText}
 use Rattle.device.specs.Rules.{padded, textRule, sized}
 
@@ -37,3 +40,8 @@ text-pad n xs h = rw (pad-length n xs h, le-leb (length xs) n h, pad-zeros n xs,
 pub sized-by : (l : Link) → length (l .numbers) ≡ slotCount → length (l .name .octets) ≡ maxHeld → length (l .ports .octets) ≡ maxHeld → sized l ≡ true
 unfolding sized
 sized-by l a b c = rw (eq-eqb _ _ a, eq-eqb _ _ b, eq-eqb _ _ c)
+
+-- the defaults by slot are the numbers'
+pub default-at : (k : ℕ) → k < slotCount → getD defaults k 0 ≡ numberAt k .default
+unfolding defaults numbers allBelow allFrom
+default-at k h = eqb-true _ _ (all-at slotCount (λ j. eqb (getD defaults j 0) (numberAt j .default)) refl k h)

@@ -22,7 +22,7 @@ use Rattle.device.specs.declared.state.Device.{Device}
 use Rattle.device.specs.State.{octetsOf, defaults, freshLink, noLink, maxHeld, maxText, maxVendor, addressSize, maxLinks}
 use Rattle.device.specs.Ports.{portsIn, distinct}
 use Rattle.device.specs.Rules.{padded, textRule, portsRule, inRange, stackRule, sized, linkRule, atDefaults, isFresh, linkKept, settingsRule, rules}
-use Rattle.device.proofs.LawsRules.{padded-within}
+use Rattle.device.proofs.LawsRules.{padded-within, default-at}
 
 -- ---- a link's arrays
 
@@ -66,10 +66,6 @@ zeros n xs e t =
     let all = rw (sub-zero (length xs)) at t in
     rw (sub-zero n) (ext-getD 0 xs zs (e ∙ sym (length-replicate n 0))
     (λ i h. eqb-true _ _ (all-at (length xs) (λ k. eqb (getD xs k 0) 0) all i h) ∙ sym (getD-replicate n i 0 0 (omega arith))))
-
-default-at : (k : ℕ) → k < slotCount → getD defaults k 0 ≡ numberAt k .default
-unfolding defaults numbers allBelow allFrom
-default-at k h = eqb-true _ _ (all-at slotCount (λ j. eqb (getD defaults j 0) (numberAt j .default)) refl k h)
 
 at-defaults : (xs : List ℕ) → length xs ≡ slotCount → atDefaults xs ≡ true → xs ≡ defaults
 unfolding atDefaults defaults numbers

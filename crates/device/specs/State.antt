@@ -4,7 +4,7 @@ use mathlib.Core.List.{List, [], map}
 use lib.ListN.{length, take, replicate}
 use Rattle.octets.specs.Padding.{pad}
 use Rattle.property.specs.Status.{resetStatus}
-use Rattle.property.specs.Number.{numbers}
+use Rattle.property.specs.Number.{numbers, powerState}
 use Rattle.device.specs.declared.state.Text.{Text}
 use Rattle.device.specs.declared.state.Held.{Held}
 use Rattle.device.specs.declared.state.Link.{Link}
@@ -69,6 +69,5 @@ freshLink = record { status = resetStatus; numbers = defaults; name = heldFrom [
 abbrev pub noLink : Link
 noLink = record { status = 0; numbers = []; name = record { octets = []; len = 0 }; ports = record { octets = []; len = 0 } }
 
--- power state 4
 unfoldable pub fresh : Settings → Device
-fresh s = record { settings = s; power = 4; links = replicate maxLinks freshLink }
+fresh s = record { settings = s; power = powerState .default; links = replicate maxLinks freshLink }

@@ -1,6 +1,7 @@
 -- What a command on one link can see, and what it can do beyond that link.
 use Prim.Native.Nat.{ℕ}
 use lib.ListN.{getD}
+use Rattle.property.specs.Number.{powerState}
 use Rattle.device.specs.State.{noLink}
 use Rattle.device.specs.declared.state.Link.{Link}
 use Rattle.device.specs.declared.state.Device.{Device}
@@ -14,7 +15,7 @@ viewOf k d = record { settings = d .settings; power = d .power; link = getD (d .
 
 unfoldable pub powerAfter : ℕ → Effect → ℕ
 powerAfter p None = p
-powerAfter p Reset = 4
+powerAfter p Reset = powerState .default
 powerAfter p (Powered x) = x
 
 -- a view after an effect, with the link as a command left it

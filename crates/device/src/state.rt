@@ -1,12 +1,15 @@
 // The state of the box, by value. An array that a count goes with is filled from its front and holds zeros past the count.
 use octets::write_octets;
+use property::number_at;
+use property::power_state;
 use property::slot;
 use property::status;
 ghost use mathlib.Core.Path.{_≡_};
 ghost use mathlib.Core.List.{_++_};
 ghost use Prim.Native.Nat.{_+_, _≤_};
 ghost use lib.ListN.{length};
-ghost use Rattle.device.specs.State.{heldFrom, textFrom, freshLink, fresh, maxHeld, maxText};
+ghost use Rattle.property.specs.Number.{powerState};
+ghost use Rattle.device.specs.State.{heldFrom, textFrom, defaults, freshLink, fresh, maxHeld, maxText};
 
 // The version text that setup gave.
 pub struct Text {
@@ -41,6 +44,26 @@ pub struct Device {
     pub settings: Settings,
     pub power: u8,
     pub links: [Link; Device::MAX_LINKS],
+}
+
+// The power state of a fresh box.
+pub fn default_power() -> u8
+    ensures { λ r. ⌜ r ≡ powerState .default ⌝ }
+{
+    power_state().default as u8
+}
+
+// The numbers of a fresh link, by slot.
+fn default_numbers() -> [u32; slot::COUNT]
+    ensures { λ r. ⌜ r ≡ defaults ⌝ }
+{
+    let mut numbers = [0u32; slot::COUNT];
+    let mut slot: usize = 0;
+    while slot < slot::COUNT {
+        numbers[slot] = number_at(slot).default;
+        slot += 1;
+    }
+    numbers
 }
 
 impl Text {
@@ -87,7 +110,7 @@ impl Link {
     {
         Link {
             status: status::RESET_SOFTWARE,
-            numbers: [0, 11, 0, 65535, 0, 0, 0, 240, 65534],
+            numbers: default_numbers(),
             name: Held {
                 octets: [0; Link::MAX_HELD],
                 len: 0,
@@ -121,7 +144,7 @@ impl Device {
         let links = [link; Device::MAX_LINKS];
         Device {
             settings,
-            power: 4,
+            power: default_power(),
             links,
         }
     }

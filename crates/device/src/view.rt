@@ -2,6 +2,7 @@
 use crate::state::Device;
 use crate::state::Link;
 use crate::state::Settings;
+use crate::state::default_power;
 ghost use mathlib.Core.Path.{_≡_};
 ghost use Prim.Native.Nat.{_<_};
 ghost use Rattle.device.specs.State.{maxLinks};
@@ -26,7 +27,7 @@ fn power_after(power: u8, effect: Effect) -> u8
 {
     match effect {
         Effect::None => power,
-        Effect::Reset => 4,
+        Effect::Reset => default_power(),
         Effect::Powered(state) => state,
     }
 }

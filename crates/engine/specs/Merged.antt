@@ -5,6 +5,7 @@ use mathlib.Core.List.{List, [], _∷_, _++_, foldl}
 use lib.Dec.{eqb}
 use Rattle.octets.specs.Body.{headerOf}
 use Rattle.octets.specs.Runs.{each, emitted}
+use Rattle.property.specs.Number.{powerState}
 use Rattle.device.specs.State.{freshLink}
 use Rattle.device.specs.declared.state.Settings.{Settings}
 use Rattle.device.specs.declared.state.Device.{Device}
@@ -69,7 +70,7 @@ picked s k (b ∷ bs) (r ∷ rs) = cond (isAnswered s k b) (r ∷ []) [] ++ pick
 -- what an effect leaves of a view whose link a body left as l
 unfoldable pub moved : Effect → View → Link → View
 moved None v l = record { settings = v .settings; power = v .power; link = l }
-moved Reset v l = record { settings = v .settings; power = 4; link = freshLink }
+moved Reset v l = record { settings = v .settings; power = powerState .default; link = freshLink }
 moved (Powered x) v l = record { settings = v .settings; power = x; link = l }
 
 unfoldable pub viewStep : View → Item → View

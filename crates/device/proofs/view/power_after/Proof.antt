@@ -11,7 +11,8 @@ power-after-spec =
     (tie.spec
     (λ c. search needs)
     (λ c. search needs)
+    (λ c κs. search needs)
     (λ c. search needs)
     (λ c. rw (c .enum-told .given .1))
-    (λ c. rw (c .enum-told2 .given .1))
+    (λ c. rw (c .before .enum-told2 .given .1, c .default-power .ensures))
     (λ c. rw (c .before .effect .given .1)))
