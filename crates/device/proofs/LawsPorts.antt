@@ -1,28 +1,23 @@
 -- Laws of ports in octets, at a place and from it on.
-use mathlib.Core.Path.{_≡_, refl, _∙_}
+use mathlib.Core.Path.{_≡_, refl}
 use mathlib.Core.Bool.{true, false}
 use mathlib.Core.List.{List, [], _∷_}
 use Prim.Native.Nat.{ℕ, suc, _+_, _*_, _-_, _≤_, _<_}
 use native.Mathlib.Omega.{arith}
 use borrow.Author.Tests.{eq-eqb, ne-eqb, lt-ltb, le-ltb}
-use lib.ListN.{length, getD, take, drop, length-drop}
-use Rattle.octets.specs.LittleEndian.{le, leAt}
+use lib.ListN.{length, drop, length-drop}
+use Rattle.octets.specs.LittleEndian.{leAt}
 use Rattle.octets.specs.Finding.{before}
 use Rattle.octets.proofs.LawsLists.{drop-next}
 use Rattle.octets.proofs.LawsFinding.{before-most}
 use Rattle.device.specs.Ports.{portsIn, holds, distinct}
 
--- two octets and what follows them
-two : (xs zs : List ℕ) (x y : ℕ) → xs ≡ x ∷ y ∷ zs → portsIn xs ≡ le (take 2 xs) ∷ portsIn zs
-unfolding portsIn le
-two xs zs x y e = let low : x + 256 * y ≡ x + 256 * (y + 256 * 0) = omega arith in rw (e, low)
-
 -- a whole port stands at the place
 pub ports-next : (xs : List ℕ) (at : ℕ) → at + 1 < length xs → portsIn (drop at xs) ≡ leAt xs at 2 ∷ portsIn (drop (at + 2) xs)
-unfolding leAt
+unfolding leAt portsIn
 ports-next xs at h =
     let next : at + 1 + 1 ≡ at + 2 = omega arith in
-    two _ _ (getD xs at 0) (getD xs (at + 1) 0) (drop-next xs at (omega arith) ∙ rw (drop-next xs (at + 1) h, next))
+    rw (drop-next xs at (omega arith), drop-next xs (at + 1) h, next)
 
 -- no whole port is left
 none : (xs : List ℕ) → length xs < 2 → portsIn xs ≡ []

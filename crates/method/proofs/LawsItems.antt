@@ -72,13 +72,13 @@ pub ports-count : (xs : List ℕ) → length xs % 2 ≡ 0 → length xs ≡ 2 * 
 ports-count xs e = omega (arith, ports-length xs)
 
 pub ports-snoc : (xs p : List ℕ) → length xs % 2 ≡ 0 → length p ≡ 2 → portsIn (xs ++ p) ≡ portsIn xs ++ (le p ∷ [])
-unfolding portsIn le
+unfolding portsIn
 ports-snoc [] [] e two = absurd (omega arith)
 ports-snoc [] (x ∷ []) e two = absurd (omega arith)
-ports-snoc [] (x ∷ y ∷ []) e two = let low : x + 256 * y ≡ x + 256 * (y + 256 * 0) = omega arith in rw low
+ports-snoc [] (x ∷ y ∷ []) e two = refl
 ports-snoc [] (x ∷ y ∷ z ∷ zs) e two = absurd (omega arith)
 ports-snoc (x ∷ []) p e two = absurd (omega arith)
-ports-snoc (x ∷ y ∷ xs) p e two = ap (λ ps. (x + 256 * y) ∷ ps) (ports-snoc xs p (omega arith) two)
+ports-snoc (x ∷ y ∷ xs) p e two = ap (λ ps. le (x ∷ y ∷ []) ∷ ps) (ports-snoc xs p (omega arith) two)
 
 pub ports-without : (i : ℕ) (xs : List ℕ) → 2 * i + 2 ≤ length xs
     → portsIn (without (2 * i) xs) ≡ take i (portsIn xs) ++ drop (suc i) (portsIn xs)
@@ -89,7 +89,7 @@ ports-without zero (x ∷ y ∷ xs) h = refl
 ports-without (suc i) (x ∷ y ∷ xs) h =
     let here : 2 * suc i ≡ suc (suc (2 * i)) = omega arith in
     let behind : suc (suc (2 * i)) + 2 ≡ suc (suc (2 * i + 2)) = omega arith in
-    rw (here, behind) (ap (λ ps. (x + 256 * y) ∷ ps) (ports-without i xs (omega arith)))
+    rw (here, behind) (ap (λ ps. le (x ∷ y ∷ []) ∷ ps) (ports-without i xs (omega arith)))
 
 pub length-without : (at : ℕ) (xs : List ℕ) → at + 2 ≤ length xs → length (without at xs) + 2 ≡ length xs
 unfolding without
