@@ -8,9 +8,9 @@ use property::status;
 use reply::write_status;
 ghost use mathlib.Core.Bool.{true};
 ghost use mathlib.Core.Path.{_≡_};
-ghost use Prim.Native.Nat.{_≤_, _<_, _/_};
+ghost use Prim.Native.Nat.{_≤_, _<_};
 ghost use lib.ListN.{length};
-ghost use Rattle.octets.specs.Body.{maxBody, minBody, headerOf};
+ghost use Rattle.octets.specs.Body.{SpinelBody};
 ghost use Rattle.octets.specs.Writing.{Wrote};
 ghost use Rattle.device.specs.State.{maxLinks, maxReply};
 ghost use Rattle.device.specs.Rules.{rules};
@@ -40,7 +40,7 @@ fn affected(device: Device, k: usize, effect: Effect, link: Link) -> Device
 
 pub fn answer(device: Device, body: &[u8], out: &mut [u8]) -> Answered
     requires rules { ⌜ rules device ≡ true ⌝ }
-    requires body { ⌜ (minBody ≤ length (now body)) × (length (now body) ≤ maxBody) × (headerOf (now body) / 64 ≡ 2) ⌝ }
+    requires body { ⌜ SpinelBody (now body) ⌝ }
     requires room { ⌜ maxReply ≤ length (now out) ⌝ }
     ensures device { λ r. ⌜ r .device ≡ engine device (now (body .entry)) .device ⌝ }
     ensures reply { λ r. ⌜ Wrote (now (out .entry)) (now (out .exit)) 0 (r .len) (engine device (now (body .entry)) .reply) ⌝ }
