@@ -24,7 +24,7 @@ use Rattle.method.specs.declared.outcome.Performed.{Performed}
 use Rattle.method.specs.Perform.{perform}
 use Rattle.method.specs.Outcome.{refused}
 use Rattle.method.specs.Items.{insertPort, removePort}
-use Rattle.method.proofs.LawsKept.{perform-kept}
+use Rattle.method.proofs.LinkKept.{perform-kept}
 use Rattle.reply.specs.Value.{valueOf}
 use Rattle.reply.specs.Reply.{content, maxContent}
 use Rattle.reply.proofs.LawsReplies.{value-size}

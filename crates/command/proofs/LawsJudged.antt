@@ -25,7 +25,7 @@ use Rattle.request.proofs.LawsVerdict.{Small, verdict-reach, verdict-small}
 use Rattle.method.specs.declared.outcome.Outcome.{Outcome}
 use Rattle.method.specs.declared.outcome.Outcome.the-variants.{Done, Refused}
 use Rattle.method.specs.Perform.{perform}
-use Rattle.method.proofs.LawsKept.{perform-kept}
+use Rattle.method.proofs.LinkKept.{perform-kept}
 use Rattle.reply.specs.Reply.{successReply}
 use Rattle.reply.proofs.LawsReplies.{replied-size}
 use Rattle.command.specs.Decision.{Judged, stopped, noop, reset, success, replying, concluded, reached, judgedBy, judged}

@@ -1,5 +1,5 @@
 pub mod Separation
-pub mod LawsRepliesInOrder
+pub mod RepliesInOrder
 pub mod RulesKept
 pub mod ReplyBounds
 pub mod ReplyHeader

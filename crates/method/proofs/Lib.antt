@@ -1,5 +1,5 @@
 pub mod LawsNumbers
 pub mod LawsItems
 pub mod StackAndInterface
-pub mod LawsKept
+pub mod LinkKept
 pub mod LawsEffects

@@ -1,5 +1,5 @@
 -- PROMISE: every row of the two tables keeps its rule, each by one test that is computed over the whole table; what is looked up is the
--- row of that property, and keeps the rule.
+-- row of that property, and keeps the rule; the slots that the rules of the state name are those of 65 and 66.
 use mathlib.Core.Path.{_≡_, refl, sym, _∙_}
 use mathlib.Core.Bool.{Bool, true, false, cond, not, _&&_}
 use mathlib.Core.List.{List, [], _∷_}
@@ -32,7 +32,6 @@ pub numbers-keep : (slot : ℕ) → slot < slotCount → numberRule (numberAt sl
 unfolding numbers within allBelow allFrom
 numbers-keep slot h = all-at slotCount (λ k. numberRule (numberAt k)) refl slot h
 
--- the two slots that a rule of the state names are 65's and 66's
 pub interface-is-65 : getD ids interfaceUp 0 ≡ 65
 unfolding ids
 interface-is-65 = refl

@@ -2,7 +2,7 @@
 use borrow.Author.Needs.{needs}
 use Rattle.property.proofs.TableRule.{slot-below}
 use Rattle.device.proofs.StateRules.{link-from}
-use Rattle.method.proofs.LawsKept.{perform-kept}
+use Rattle.method.proofs.LinkKept.{perform-kept}
 use Rattle.command.specs.Decision.{concluded, reached, decisionOf}
 use Rattle.command.proofs.LawsContent.{content-size}
 use Rattle.command.proofs.decision.reach.Statement.{statement}

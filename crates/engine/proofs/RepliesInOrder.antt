@@ -1,4 +1,4 @@
--- The replies to bodies one after the other: one to each, in order; a link's are those at the places of its bodies.
+-- PROMISE: bodies one after the other get one reply each, in order; a link's are those at the places of its bodies.
 use mathlib.Core.Path.{_≡_, refl, ap}
 use mathlib.Core.List.{List, [], _∷_, _++_, map, foldl-append}
 use Prim.Native.Nat.{ℕ, suc}

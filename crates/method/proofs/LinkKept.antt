@@ -1,4 +1,4 @@
--- A command leaves a link that keeps its rules, with the last status that it had, and refuses with a status that a link can hold.
+-- PROMISE: a command leaves a link that keeps its rules, with the last status that it had, and refuses with a status that a link can hold.
 use mathlib.Core.Path.{_≡_, refl, sym, _∙_}
 use mathlib.Core.Bool.{Bool, true, false, not}
 use mathlib.Core.List.{List, _++_}
