@@ -1,6 +1,6 @@
 -- PROMISE: what the rules tell. A link that is set up keeps its rule, one that is not is the fresh link; the settings are in their ranges,
 -- and the arrays have their lengths.
-use mathlib.Core.Path.{_≡_, refl, sym, _∙_}
+use mathlib.Core.Path.{_≡_, sym, _∙_}
 use mathlib.Core.Bool.{true}
 use mathlib.Core.List.{List, []}
 use Prim.Native.Nat.{ℕ, _%_, _≤_, _<_}
@@ -11,7 +11,7 @@ use lib.Dec.{eqb, leb}
 use lib.ListN.{length, getD, replicate, length-replicate, getD-replicate, take}
 use lib.Seq.{ext-getD, length-take-le}
 use Rattle.octets.specs.Padding.{pad}
-use Rattle.octets.specs.Scanning.{allFrom, allBelow, zerosFrom}
+use Rattle.octets.specs.Scanning.{allBelow, zerosFrom}
 use Rattle.octets.proofs.LawsScanning.{all-at, all-of}
 use Rattle.property.specs.Status.{maxStatus, resetStatus}
 use Rattle.property.specs.Number.{numbers, numberAt, powerState, within, slotCount}
