@@ -14,7 +14,6 @@ use crate::text::piece;
 use crate::text::pieces;
 use crate::text::place;
 use crate::text::same;
-use device::Answer;
 use device::Device;
 use device::setup;
 use engine::Answered;
@@ -98,20 +97,19 @@ fn configured(head: &[u8], told: bool) -> Device {
 fn set(links: usize, vendor: u32, text: &[u8], address: &[u8], told: bool) -> Device {
     let configured = setup(links, vendor, text, address);
     let answer = configured.answer;
-    tell(answer, told);
+    tell(answer.number() as usize, told);
     configured.device
 }
 
 // The answer of setup. A refusal is always told.
-fn tell(answer: Answer, told: bool) {
-    match answer {
-        Answer::Ready => {
-            if told {
-                show::text(b" 0, then");
-            }
+fn tell(number: usize, told: bool) {
+    if number == 0 {
+        if !told {
+            return;
         }
-        Answer::BadSetup => show::text(b" 14, then"),
     }
+    show::number(b" ", number);
+    show::text(b", then");
 }
 
 fn send(device: Device, bodies: &[u8]) {

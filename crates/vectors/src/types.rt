@@ -85,14 +85,10 @@ fn within(types: &[u8], payload: &[u8], list: &mut [u32], room: usize) -> Answer
 
 // Tells the answer's number, and returns how many leaves there are.
 fn answered(answer: Answer) -> usize {
-    match answer {
-        Answer::Leaves(count) => {
-            show::number(b"0 with ", count);
-            return count;
-        }
-        Answer::Malformed => show::text(b"15"),
-        Answer::Misfit => show::text(b"16"),
-        Answer::ShortList => show::text(b"17"),
+    show::number(b"", answer.number() as usize);
+    if let Answer::Leaves(count) = answer {
+        show::number(b" with ", count);
+        return count;
     }
     0
 }

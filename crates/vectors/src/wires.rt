@@ -78,7 +78,7 @@ fn offer(reader: Reader, chunk: &[u8], assembly: &mut Assembly) -> Reading {
 }
 
 fn tell(fate: Fate, read: usize, assembly: &Assembly) {
-    show::number(b" fate ", number(fate));
+    show::number(b" fate ", fate.number() as usize);
     show::number(b" read ", read);
     if let Fate::Checked(n) = fate {
         if 16 < n {
@@ -86,17 +86,5 @@ fn tell(fate: Fate, read: usize, assembly: &Assembly) {
         } else {
             show::octets(b" body", front(assembly, n));
         }
-    }
-}
-
-fn number(fate: Fate) -> usize {
-    match fate {
-        Fate::Unfinished => 0,
-        Fate::Checked(_) => 1,
-        Fate::Short => 2,
-        Fate::WrongCheck => 3,
-        Fate::TooLong => 4,
-        Fate::CutEscape => 5,
-        Fate::BadHeader => 6,
     }
 }
