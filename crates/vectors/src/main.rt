@@ -4,6 +4,7 @@
 mod boxes;
 mod frames;
 mod integers;
+mod receiving;
 mod show;
 mod text;
 mod types;
@@ -67,7 +68,7 @@ fn labelled(words: &[u8]) -> bool {
 fn case(shown: &[u8], line: &[u8]) -> bool {
     let text = after(line, b' ');
     match place(
-        b"fcs read frame packed wire after type setup box",
+        b"fcs read frame packed wire after type setup box receive",
         before(line, b' '),
     ) {
         0 => frames::check(shown, text),
@@ -79,6 +80,7 @@ fn case(shown: &[u8], line: &[u8]) -> bool {
         6 => types::typed(shown, text),
         7 => boxes::set_up(shown, text),
         8 => boxes::boxed(shown, text, false),
+        9 => receiving::received(shown, text),
         _ => false,
     }
 }
