@@ -19,7 +19,7 @@ use Rattle.hdlc.proofs.ReaderRules.{fresh-rules, rules-hold}
 use Rattle.device.specs.declared.state.Device.{Device}
 use Rattle.device.proofs.SetupKeepsRules.{setup-keeps}
 use Rattle.engine.specs.Merged.{repliesTo}
-use Rattle.engine.proofs.LawsRepliesInOrder.{one-each}
+use Rattle.engine.proofs.RepliesInOrder.{one-each}
 use Rattle.serial.specs.Receiving.{minOutput, Result}
 use Rattle.serial.specs.Histories.{Setup, deviceFrom, ReceivingCall, lentFrom, History, start, endOf, gives, replyIn, repliesIn, readIn, readBy, laid, checkedIn, bodies, Report, reported, callMeans, openAfter, deviceIn}
 use Rattle.serial.proofs.LawsHistories.{Stands, Step, step, Runs, runs}

@@ -23,7 +23,7 @@ use Rattle.hdlc.proofs.ReaderRules.{rules-told, run-rules}
 use Rattle.device.specs.declared.state.Device.{Device}
 use Rattle.device.specs.Rules.{rules}
 use Rattle.engine.specs.Merged.{deviceAfter, repliesTo}
-use Rattle.engine.proofs.LawsRepliesInOrder.{device-append, replies-append}
+use Rattle.engine.proofs.RepliesInOrder.{device-append, replies-append}
 use Rattle.engine.proofs.RulesKept.{bodies-keep}
 use Rattle.serial.specs.Receiving.{minOutput, breaksRules, refused, unrefused, receive}
 use Rattle.serial.specs.Histories.{Lent, own, short, ReceivingCall, State, lentFrom, leftIn, gives, next, replyIn, repliesFrom, readFrom, isRefused, readBy, laidFrom, checkedOf, checkedIn, report, reported, callMeans}

@@ -14,7 +14,7 @@ use Rattle.device.specs.View.{viewOf}
 use Rattle.reply.specs.Value.{valueOf}
 use Rattle.engine.specs.Merged.{picked}
 use Rattle.engine.proofs.Separation.{separation}
-use Rattle.engine.proofs.LawsRepliesInOrder.{picked-replies}
+use Rattle.engine.proofs.RepliesInOrder.{picked-replies}
 use Rattle.serial.specs.Histories.{Setup, deviceFrom, History, endOf, bodies, deviceIn}
 use Rattle.serial.specs.Links.{settingsIn, mergedIn, octetsTo, bodiesTo, valuesOn, statusOn}
 use Rattle.serial.proofs.Faithful.{faithful}
