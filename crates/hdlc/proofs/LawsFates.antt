@@ -9,6 +9,7 @@ use lib.Dec.{ltb, eqb}
 use lib.ListN.{length, take, length-take}
 use lib.Seq.{length-take-le, getD-take, take-take}
 use Rattle.octets.specs.Body.{headerOf}
+use Rattle.octets.proofs.LawsLists.{empty}
 use Rattle.octets.proofs.LawsTests.{by-test, chosen, impossible}
 use Rattle.frame.specs.Fcs.{fcs}
 use Rattle.hdlc.specs.declared.reader.Fate.{Fate}
@@ -91,10 +92,6 @@ by-piece P p long cut none few wrong other sound =
     let size = body-size g in
     sound
     (record { whole = c; first = refl; check = check; bounds = (omega arith, omega arith, ap (λ h. h / 64) (header-gathered g many) ∙ top) })))))
-  where
-    empty : (g : List ℕ) → length g ≡ 0 → g ≡ []
-    empty [] e = refl
-    empty (x ∷ xs) e = absurd (omega arith)
 
 -- a flag that decides nothing ends a piece that stands for nothing
 pub undecided-empty : (p : List ℕ) → decided (pieceFate p) ≡ false → gathered p ≡ []

@@ -1,13 +1,13 @@
 -- PROMISE: the reader's rules are decided by their test and kept by every octet and every call.
-use mathlib.Core.Bool.{true, true≢false, false≢true}
-use mathlib.Core.Path.{_≡_, sym, ap, _∙_}
+use mathlib.Core.Bool.{true}
+use mathlib.Core.Path.{_≡_, ap, _∙_}
 use mathlib.Core.List.{List}
 use Prim.Native.Nat.{ℕ, _≤_}
 use native.Mathlib.Omega.{arith}
 use borrow.Author.Tests.{ltb-false, eqb-true, le-ltb, eq-eqb}
 use lib.Dec.{ltb}
 use lib.ListN.{length}
-use Rattle.octets.proofs.LawsTests.{by-test}
+use Rattle.octets.proofs.LawsTests.{by-test, impossible}
 use Rattle.hdlc.specs.declared.reader.Reader.{Reader}
 use Rattle.hdlc.specs.Fate.{decided}
 use Rattle.hdlc.specs.Reader.{maxGathered, fresh, Assembling, assembling, afterOctet, run}
@@ -22,13 +22,13 @@ use Rattle.hdlc.proofs.ClosedForm.{open-holds, closed-form}
 pub rules-told : (r : Reader) → rules r ≡ true → Rules r
 unfolding rules
 rules-told r =
-    by-test (ltb maxGathered (r .count)) (λ t. simp t (λ e. absurd (false≢true e)))
+    by-test (ltb maxGathered (r .count)) (λ t. simp t (λ e. impossible cc))
     (λ t. simp t
     (by-test (r .discarding)
     (λ d. simp d
-    (by-test (r .escaped) (λ x. simp x (λ e. absurd (false≢true e)))
+    (by-test (r .escaped) (λ x. simp x (λ e. impossible cc))
     (λ x. simp x (λ e. record { count = ltb-false _ _ t; discard = λ _. (eqb-true _ _ e, x) }))))
-    (λ d. simp d (λ e. record { count = ltb-false _ _ t; discard = λ yes-d. absurd (true≢false (sym yes-d ∙ d)) }))))
+    (λ d. simp d (λ e. record { count = ltb-false _ _ t; discard = λ yes-d. impossible cc }))))
 
 pub rules-hold : (r : Reader) → Rules r → rules r ≡ true
 unfolding rules
@@ -37,7 +37,7 @@ rules-hold r keeps =
     (by-test (r .discarding) (λ d. simp (d, keeps .discard d .1, eq-eqb _ _ (keeps .discard d .0))) (λ d. simp d))
 
 pub fresh-rules : Rules fresh
-fresh-rules = record { count = omega arith; discard = λ d. absurd (false≢true d) }
+fresh-rules = record { count = omega arith; discard = λ d. impossible cc }
 
 -- ---- they are kept
 

@@ -1,2 +1,3 @@
 pub mod LawsTurns
 pub mod LawsServing
+pub mod Prints

@@ -39,7 +39,7 @@ checked-given f =
     by-test (eqb (f .number) 0) (λ t. rw (t, ap (λ n. eqb n 1) (eqb-true _ _ t))) (λ t. rw t (append-nil _))
 
 module _ (octets : List ℕ → List ℕ) (d : Device) (o : Outcome) (out : List ℕ) {bs : List (List ℕ)} (e : checkedOf (given (o .fate)) ≡ bs) where
-  found : bs ≡ cond (eqb (o .fate .number) 1) (o .fate .body ∷ []) []
+  pub found : bs ≡ cond (eqb (o .fate .number) 1) (o .fate .body ∷ []) []
   found = sym e ∙ checked-given (o .fate)
 
   pub unrefused-device : unrefused octets d o out .device ≡ deviceAfter d bs

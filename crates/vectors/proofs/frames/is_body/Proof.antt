@@ -1,5 +1,5 @@
 -- False is not true.
-use mathlib.Core.Bool.{false≢true}
+use Rattle.octets.proofs.LawsTests.{impossible}
 use borrow.Author.Needs.{needs}
 use Rattle.vectors.proofs.frames.is_body.Statement.{statement}
 use Rattle.vectors.proofs.frames.is_body.Tie as tie
@@ -7,4 +7,4 @@ use Rattle.vectors.proofs.frames.is_body.Tie as tie
 pub is-body-spec : {M : Type 1} → statement M
 is-body-spec =
     tie.close
-    (tie.spec (λ c e. absurd (false≢true e)) (λ c e. absurd (false≢true e)) (λ c. search needs))
+    (tie.spec (λ c e. impossible cc) (λ c e. impossible cc) (λ c. search needs))
