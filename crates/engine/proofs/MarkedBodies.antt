@@ -1,6 +1,6 @@
 -- PROMISE: every marked body of 01 has the reply that 01 gives it, in one statement over the table.
 use mathlib.Core.Path.{_≡_, refl}
-use mathlib.Core.List.{[], _∷_, map}
+use mathlib.Core.List.{map}
 use Rattle.octets.specs.Finding.{before}
 use Rattle.octets.specs.LittleEndian.{le, leOctets}
 use Rattle.octets.specs.Padding.{pad}
@@ -30,10 +30,3 @@ unfolding before le leOctets pad packed packedIn joined numberIn packedAt rows l
     fixedValue numberValue valueOf statusReply replyCommand content successReply replying concluded reached judgedBy judged statusDecision decisionOf
     decide linkOf isSetUp affect settled engine freshBox repliesTo marked
 marked-bodies = refl
-
--- the shortest reply: 82 02 5C on a fresh box gives 82 06 5C
-pub three-octets : repliesTo freshBox ((0x82 ∷ 0x02 ∷ 0x5C ∷ []) ∷ []) ≡ (0x82 ∷ 0x06 ∷ 0x5C ∷ []) ∷ []
-unfolding before pad packed packedIn joined numberIn packedAt rows lookupIn lookup allows numbers goodText isText defaults fresh isGoodSetup
-    refusal setupFor powerAfter commandOf byRow byProperty byCommand verdict getWith perform valueOf replyCommand content successReply replying
-    concluded reached judgedBy judged decisionOf decide linkOf isSetUp affect settled engine freshBox repliesTo
-three-octets = refl
