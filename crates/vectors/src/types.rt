@@ -16,8 +16,8 @@ use datatype::Answer;
 use datatype::Payload;
 use datatype::read_typed;
 
-// The longest list that is lent: three numbers for each octet of the longest payload.
-const MAX_LIST: usize = 3 * Payload::MAX_OCTETS;
+// The longest list that is lent: one that is always long enough.
+const MAX_LIST: usize = Payload::MAX_NUMBERS;
 
 pub fn typed(shown: &[u8], text: &[u8]) -> bool {
     let mut payload = [0u8; MAX_OCTETS];
