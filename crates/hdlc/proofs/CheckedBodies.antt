@@ -7,17 +7,18 @@ use mathlib.Core.List.{List}
 use Prim.Native.Nat.{ℕ, _-_, _/_, _≤_}
 use native.Mathlib.Omega.{arith}
 use borrow.Author.Tests.{le-ltb, eq-eqb, ne-eqb}
-use lib.ListN.{length, getD}
+use lib.ListN.{length, getD, take, length-take}
 use Rattle.octets.specs.Body.{SpinelBody}
+use Rattle.hdlc.specs.declared.reader.Fate.the-variants.{Checked}
 use Rattle.hdlc.specs.declared.reader.Reader.{Reader}
 use Rattle.hdlc.specs.Fate.{Fated, checked}
-use Rattle.hdlc.specs.Reader.{maxGathered, assembling, run}
+use Rattle.hdlc.specs.Reader.{maxGathered, assembling, outcome, run}
 use Rattle.hdlc.specs.Rules.{Rules}
 use Rattle.hdlc.specs.Wire.{gathered, contentFate, pieceFate, CheckedPiece, call}
 use Rattle.hdlc.specs.States.{openPiece, closedForm}
 use Rattle.hdlc.proofs.LawsFates.{header-gathered, body-size, by-piece}
 use Rattle.hdlc.proofs.LawsCalls.{call-fate}
-use Rattle.hdlc.proofs.ClosedForm.{closed-form}
+use Rattle.hdlc.proofs.ClosedForm.{closed-form, same-room}
 
 pub checked-piece : (p : List ℕ) → pieceFate p .number ≡ 1 → CheckedPiece p (pieceFate p .body)
 checked-piece p =
@@ -51,3 +52,11 @@ checked-body r a xs keeps room =
     (λ e.
     ⊎-elim (λ u. absurd (omega (arith, ap (λ f. f .number) u)))
     (λ u. subst (λ f. SpinelBody (f .body)) (sym u) (checked-piece (call p xs .state) (sym (ap (λ f. f .number) u) ∙ e) .bounds)) (call-fate xs p))
+
+-- as the code gives it: the count of `Checked` is the body's length, and the body stands at the front of the buffer
+pub checked-count : (r : Reader) (a xs : List ℕ) {n k : ℕ} {next : Reader} {b : List ℕ} → Rules r → maxGathered ≤ length a
+    → outcome (Checked n) k next b ≡ run (assembling r a) xs → SpinelBody (take n b) × (n ≤ length b)
+checked-count r a xs {n} {b = b} keeps room e =
+    let body = subst SpinelBody (ap (λ o. o .fate .body) (sym e)) (checked-body r a xs keeps room (ap (λ o. o .fate .number) (sym e))) in
+    let size = ap (λ o. length (o .state .assembly)) e ∙ same-room r a xs keeps room in
+    (body, omega (arith, length-take n b))

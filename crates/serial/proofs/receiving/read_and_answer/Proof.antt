@@ -1,10 +1,10 @@
 -- A checked body meets what the engine asks.
-use mathlib.Core.Path.{_≡_, sym, ap, subst, _∙_}
+use mathlib.Core.Path.{_≡_, sym, ap, _∙_}
 use mathlib.Core.List.{List}
 use Prim.Native.Nat.{ℕ, _≤_}
 use native.Mathlib.Omega.{arith}
 use borrow.Author.Needs.{needs}
-use lib.ListN.{length, take, length-take}
+use lib.ListN.{length, take}
 use lib.Seq.{length-take-le}
 use Rattle.octets.specs.Body.{SpinelBody}
 use Rattle.octets.proofs.LawsWriting.{front-count, front-held}
@@ -12,7 +12,7 @@ use Rattle.hdlc.specs.declared.reader.Fate.the-variants.{Checked}
 use Rattle.hdlc.specs.Reader.{assembling, outcome, run}
 use Rattle.hdlc.proofs.LawsReading.{tag-unchecked}
 use Rattle.hdlc.proofs.ReaderRules.{rules-told}
-use Rattle.hdlc.proofs.CheckedBodies.{checked-body}
+use Rattle.hdlc.proofs.CheckedBodies.{checked-count}
 use Rattle.engine.specs.Engine.{engine}
 use Rattle.engine.proofs.ReplyBounds.{reply-bounds}
 use Rattle.serial.specs.Receiving.{unrefused}
@@ -39,14 +39,8 @@ module _ (c : tie.After-known-told) where
       let r = call .read-frame .result in
       ap (λ f. outcome f (r .read) (r .reader) assembly) (sym (c .before .fate .given .1)) ∙ call .read-frame .ensures
 
-  body : SpinelBody (take count assembly)
-  body =
-      let keeps = rules-told _ (start .pre .0 .1) in
-      subst SpinelBody (ap (λ o. o .fate .body) (sym reads))
-      (checked-body _ (start .args .assembly .now) (start .args .input .now) keeps (start .pre .1) (ap (λ o. o .fate .number) (sym reads)))
-
-  room : count ≤ length assembly
-  room = let b = body in omega (arith, length-take count assembly, call .read-frame .kept, start .pre .1)
+  found : SpinelBody (take count assembly) × (count ≤ length assembly)
+  found = checked-count _ _ _ (rules-told _ (start .pre .0 .1)) (start .pre .1) reads
 
 -- what was answered fits the space, and stands at its front
 module _ (c : tie.After-answer) where
@@ -66,9 +60,9 @@ read-and-answer-spec =
     (tie.spec
     (λ c κs. search needs)
     (λ c. search needs)
-    room
-    (λ c. sym (length-take-le _ _ (room (c .before))))
-    (λ c κs. (search needs, (body (c .before .before), search needs)))
+    (λ c. found c .1)
+    (λ c. sym (length-take-le _ _ (found (c .before) .1)))
+    (λ c κs. (search needs, (found (c .before .before) .0, search needs)))
     (λ c. search needs)
     (λ c. let a = c .before in let k = known a in let r = call k .read-frame .result in let w = a .answer .ensures in
     rw (← reads k)
