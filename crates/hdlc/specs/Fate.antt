@@ -23,7 +23,7 @@ unchecked n = record { number = n; body = [] }
 abbrev pub decided : Fated → Bool
 decided f = not (eqb (f .number) 0)
 
--- none where no frame has
+-- as a list: none where no frame has one
 unfoldable pub given : Fated → List Fated
 given f = cond (decided f) (f ∷ []) []
 
