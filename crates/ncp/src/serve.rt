@@ -9,7 +9,7 @@ use libc::STDOUT_FILENO;
 ghost use mathlib.Core.Bool.{true, false};
 ghost use mathlib.Core.Path.{_≡_};
 ghost use Prim.Native.Nat.{_≤_};
-ghost use lib.ListN.{length};
+ghost use lib.ListN.{length, take};
 ghost use Rattle.hdlc.specs.Reader.{maxGathered};
 ghost use Rattle.device.specs.Rules.{rules};
 ghost use Rattle.ncp.specs.Serve.{stateOf, keeps, start, gives, next, chunkLeaves, Served};
@@ -71,15 +71,16 @@ fn serve_chunk(session: Session, chunk: &[u8], assembly: &mut [u8]) -> Session
 }
 
 // Takes what one read gives, so that no reply waits for more input.
-fn serve_read(session: Session, assembly: &mut [u8]) -> Progress
+fn serve_read(session: Session, chunk: &mut [u8], assembly: &mut [u8]) -> Progress
     requires { ⌜ keeps (stateOf session (now assembly)) ⌝ }
     ensures keeps { λ p. ⌜ keeps (stateOf (p .session) (now (assembly .exit))) ⌝ }
-    ensures state { λ p. ⌜ Served (stateOf session (now (assembly .entry))) (p .session) (now (assembly .exit)) ⌝ }
+    ensures state { λ p.
+        ⌜ (p .session .stopped ≡ false →
+        stateOf (p .session) (now (assembly .exit)) ≡ chunkLeaves (stateOf session (now (assembly .entry))) (take (p .read) (now (chunk .exit)))) ⌝ }
 {
-    let mut chunk = io::buffer();
-    let got = libc::read(STDIN_FILENO, &mut chunk);
+    let got = libc::read(STDIN_FILENO, chunk);
     // 0 at the end of the input, and where the read failed.
-    let read = io::count(got, &chunk);
+    let read = io::count(got, &chunk[..]);
     Progress {
         session: serve_chunk(session, &chunk[..read], assembly),
         read,
@@ -98,9 +99,10 @@ pub fn serve(device: Device, assembly: &mut [u8]) -> Session
         reader: Reader::fresh(),
         stopped: false,
     };
+    let mut chunk = io::buffer();
     let mut reads = u64::MAX;
     while 0 < reads {
-        let progress = serve_read(session, assembly);
+        let progress = serve_read(session, &mut chunk, assembly);
         session = progress.session;
         if progress.read == 0 {
             return session;

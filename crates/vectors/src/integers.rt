@@ -13,7 +13,7 @@ use packed::write_packed;
 // A number written, and what was written read back.
 pub fn packed(shown: &[u8], text: &[u8]) -> bool {
     let mut out = [0u8; 3];
-    if is_number(text, 2097151) {
+    if is_number(text, Packed::MAX as usize) {
         let end = put(number(text), &mut out);
         written(shown, front(&out, end));
         return true;
@@ -29,7 +29,8 @@ fn written(shown: &[u8], octets: &[u8]) {
 
 // A number at the front of `out`, and the place after it; 0 where the writer does not take these.
 fn put(n: usize, out: &mut [u8]) -> usize {
-    if 2097151 < n {
+    let max = Packed::MAX as usize;
+    if max < n {
         return 0;
     }
     if out.len() < 3 {

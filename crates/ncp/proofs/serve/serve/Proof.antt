@@ -1,34 +1,38 @@
 -- The measure is how many reads are left. The invariant: the session stands where some chunks leave it.
 use mathlib.Core.Bool.{false}
-use mathlib.Core.Path.{_≡_, refl, ap, _∙_}
+use mathlib.Core.Path.{_≡_, refl, sym, ap, _∙_}
 use borrow.Author.Needs.{needs}
-use lib.ListN.{length}
+use lib.ListN.{length, take}
 use Rattle.hdlc.specs.Reader.{fresh}
 use Rattle.hdlc.specs.Rules.{rules}
 use Rattle.hdlc.proofs.ReaderRules.{fresh-rules, rules-hold}
 use Rattle.ncp.specs.Serve.{stateOf, keeps, start, Served}
-use Rattle.ncp.proofs.LawsServing.{served-none, served-then}
+use Rattle.ncp.proofs.LawsServing.{served-none, served-one, served-then}
 use Rattle.ncp.proofs.serve.serve.Statement.{statement}
 use Rattle.ncp.proofs.serve.serve.Tie as tie
 
 abbrev Inv-loop : tie.InvT-loop
-Inv-loop assembly₀ session₀ reads₀ assembly session reads =
-    (length assembly ≡ length assembly₀) × keeps (stateOf session assembly) × (session .stopped ≡ false)
+Inv-loop assembly₀ session₀ chunk₀ reads₀ assembly session chunk reads =
+    (length assembly ≡ length assembly₀) × keeps (stateOf session assembly) × (session .stopped ≡ false) × (4096 ≡ length chunk)
     × Served (start (session₀ .device) assembly₀) session assembly
 
 abbrev μ-loop : tie.MeasureT-loop
-μ-loop assembly₀ session₀ reads₀ assembly session reads = reads
+μ-loop assembly₀ session₀ chunk₀ reads₀ assembly session chunk reads = reads
 
 module _ (c : tie.After-serve-read Inv-loop μ-loop) where
   abbrev turn : tie.At-loop Inv-loop μ-loop
-  turn = c .before .before .before
+  turn = c .before .before .before .before
 
-  size : length (c .serve-read .last .1 .0) ≡ length (turn .before .before .before .args .assembly .now)
-  size = c .serve-read .kept .1 .0 ∙ turn .loop .inv .0
+  abbrev first : tie.Start Inv-loop μ-loop
+  first = turn .before .before .before .before
 
-  served : Served (start (turn .before .before .before .args .device) (turn .before .before .before .args .assembly .now)) (c .serve-read .result .session)
-      (c .serve-read .last .1 .0)
-  served = served-then _ (turn .loop .session) _ (turn .loop .assembly) _ (turn .loop .inv .2) (turn .loop .inv .3) (c .serve-read .ensures .1)
+  size : length (c .serve-read .last .1 .1 .0) ≡ length (first .args .assembly .now)
+  size = c .serve-read .kept .1 .1 .0 ∙ turn .loop .inv .0
+
+  served : Served (start (first .args .device) (first .args .assembly .now)) (c .serve-read .result .session) (c .serve-read .last .1 .1 .0)
+  served =
+      served-then _ (turn .loop .session) _ (turn .loop .assembly) _ (turn .loop .inv .2) (turn .loop .inv .4)
+      (served-one _ _ _ (take (c .serve-read .result .read) (c .serve-read .last .1 .0)) (c .serve-read .ensures .1))
 
 pub serve-spec : {M : Type 1} → statement M
 serve-spec =
@@ -37,19 +41,28 @@ serve-spec =
     Inv-loop
     μ-loop
     (λ c κs. search needs)
-    (λ c. let s = c .before .before in let e = c .fresh .ensures in (
+    (λ c κs. search needs)
+    (λ c. let s = c .before .before .before in let e = c .before .fresh .ensures in (
       refl,
       record { device = s .pre .0; reader = ap rules e ∙ rules-hold fresh fresh-rules; room = s .pre .1 },
       refl,
+      c .buffer .ensures,
       served-none _ _ _ (ap (λ r. record { device = s .args .device; reader = r; assembly = s .args .assembly .now }) e),
     ))
+    (λ c. c .before .before .loop .inv .3)
     (λ c κs. search needs)
-    (λ c. size (c .before .before .before .before .before))
-    (λ c. served (c .before .before .before .before .before))
     (λ c. size (c .before .before .before .before .before .before))
     (λ c. served (c .before .before .before .before .before .before))
+    (λ c. size (c .before .before .before .before .before .before .before))
+    (λ c. served (c .before .before .before .before .before .before .before))
     (λ c. search needs)
     (λ c. search needs)
-    (λ c. let k = c .before .before .before .before .before .before in (size k, k .serve-read .ensures .0, c .if2 .left, served k))
+    (λ c. let k = c .before .before .before .before .before .before .before in (
+      size k,
+      k .serve-read .ensures .0,
+      c .if2 .left,
+      turn k .loop .inv .3 ∙ sym (k .serve-read .kept .1 .0),
+      served k,
+    ))
     (λ c. c .before .loop .inv .0)
-    (λ c. c .before .loop .inv .3))
+    (λ c. c .before .loop .inv .4))
