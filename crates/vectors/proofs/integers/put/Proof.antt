@@ -15,6 +15,7 @@ put-spec =
     (λ c. search needs)
     (λ c. search needs)
     (λ c. search needs)
+    (λ c. search needs)
     write-packed-requires
     (λ c. search needs)
     (λ c. search needs))
