@@ -89,7 +89,7 @@ fateAt h b = cond (isFlag b) (flagFate h) (unchecked 0)
 
 -- ---- a call
 
--- it ends with the reader and the assembly buffer; what the code gives, as that
+-- it ends with a reader and the assembly buffer; the second makes one of what the code returns
 abbrev pub Outcome : Type 0
 Outcome = Read Assembling
 

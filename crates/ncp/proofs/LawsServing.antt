@@ -2,15 +2,15 @@
 use mathlib.Core.Bool.{false}
 use mathlib.Core.Path.{_≡_, refl, sym, ap, _∙_}
 use mathlib.Core.List.{List, [], _∷_, _++_, foldl, foldl-append}
-use Prim.Native.Nat.{ℕ, zero, suc, _-_, _≤_, _<_}
+use Prim.Native.Nat.{ℕ, zero, suc, _+_, _-_, _≤_, _<_}
 use native.Mathlib.Omega.{arith}
 use borrow.Author.Tests.{eq-eqb, ne-eqb}
-use lib.ListN.{length, take, drop, replicate, length-drop}
+use lib.ListN.{length, take, drop, replicate, length-append, length-drop}
 use Rattle.octets.proofs.LawsLists.{take-rest}
 use Rattle.device.specs.State.{maxReply}
 use Rattle.serial.proofs.GoesOn.{reads-within, reads-on, keeps-on}
 use Rattle.ncp.specs.declared.serve.Session.{Session}
-use Rattle.ncp.specs.Serve.{State, stateOf, keeps, gives, next, offers, offered, chunkLeaves, chunksLeave, Served}
+use Rattle.ncp.specs.Serve.{State, stateOf, keeps, gives, next, feeds, fed, chunkLeaves, chunksLeave, Served}
 
 -- ---- a call
 
@@ -31,10 +31,10 @@ module _ (s : State) (xs : List ℕ) (k : keeps s) where
 pub record Left (s : State) (xs : List ℕ) (t : State) (rest : List ℕ) : Type 0 where
   pub calls : ℕ
   pub enough : length rest ≤ calls
-  pub same : foldl next t (offers calls t rest) ≡ chunkLeaves s xs
+  pub same : foldl next t (feeds calls t rest) ≡ chunkLeaves s xs
 
 pub left-start : (s : State) (xs : List ℕ) → Left s xs s xs
-unfolding chunkLeaves offered
+unfolding chunkLeaves fed
 left-start s xs = record { calls = length xs; enough = omega arith; same = refl }
 
 -- one call more: it read n octets and left u
@@ -46,10 +46,10 @@ pub record Went (s : State) (xs rest : List ℕ) (n : ℕ) (u : State) : Type 0 
 
 module _ (s : State) (xs : List ℕ) (t : State) (rest : List ℕ) (k : keeps t) (some : 0 < length rest) (l : Left s xs t rest) where
   left-next : Left s xs (next t rest) (drop (gives t rest .read) rest)
-  unfolding offers
+  unfolding feeds
   left-next = go (l .calls) (l .enough) (l .same)
     where
-      go : (n : ℕ) → length rest ≤ n → foldl next t (offers n t rest) ≡ chunkLeaves s xs → Left s xs (next t rest) (drop (gives t rest .read) rest)
+      go : (n : ℕ) → length rest ≤ n → foldl next t (feeds n t rest) ≡ chunkLeaves s xs → Left s xs (next t rest) (drop (gives t rest .read) rest)
       go zero e f = absurd (omega arith)
       go (suc n) e f =
           record {
@@ -69,28 +69,26 @@ module _ (s : State) (xs : List ℕ) (t : State) (rest : List ℕ) (k : keeps t)
       }
 
 pub left-end : (s : State) (xs : List ℕ) (t : State) (rest : List ℕ) → length rest ≡ 0 → Left s xs t rest → t ≡ chunkLeaves s xs
-unfolding offers
+unfolding feeds
 left-end s xs t rest none l = go (l .calls) (l .same)
   where
-    go : (n : ℕ) → foldl next t (offers n t rest) ≡ chunkLeaves s xs → t ≡ chunkLeaves s xs
+    go : (n : ℕ) → foldl next t (feeds n t rest) ≡ chunkLeaves s xs → t ≡ chunkLeaves s xs
     go zero f = f
     go (suc n) f = rw (eq-eqb (length rest) 0 none) at f
 
 -- ---- chunks
 
-pub served-none : (s : State) (t : Session) (a : List ℕ) → stateOf t a ≡ s → Served s t a
+pub served-none : (s : State) (t : Session) (a : List ℕ) → stateOf t a ≡ s → Served s t a 0
 unfolding chunksLeave
-served-none s t a e = record { chunks = []; left = λ _. e }
+served-none s t a e = record { chunks = []; count = refl; left = λ _. e }
 
-pub served-one : (s : State) (t : Session) (a xs : List ℕ) → (t .stopped ≡ false → stateOf t a ≡ chunkLeaves s xs) → Served s t a
+-- a chunk more, for a session that goes on
+pub served-next : (s : State) (t u : Session) (a b xs : List ℕ) (n : ℕ) → t .stopped ≡ false → Served s t a n
+    → (u .stopped ≡ false → stateOf u b ≡ chunkLeaves (stateOf t a) xs) → Served s u b (n + 1)
 unfolding chunksLeave
-served-one s t a xs left = record { chunks = xs ∷ []; left = left }
-
--- a session that goes on
-pub served-then : (s : State) (t u : Session) (a b : List ℕ) → t .stopped ≡ false → Served s t a → Served (stateOf t a) u b → Served s u b
-unfolding chunksLeave
-served-then s t u a b on v w =
+served-next s t u a b xs n on v left =
     record {
-      chunks = v .chunks ++ w .chunks;
-      left = λ e. w .left e ∙ ap (λ z. foldl chunkLeaves z (w .chunks)) (v .left on) ∙ sym (foldl-append chunkLeaves s (v .chunks) (w .chunks));
+      chunks = v .chunks ++ (xs ∷ []);
+      count = length-append (v .chunks) (xs ∷ []) ∙ ap (λ k. k + 1) (v .count);
+      left = λ e. left e ∙ ap (λ z. chunkLeaves z xs) (v .left on) ∙ sym (foldl-append chunkLeaves s (v .chunks) (xs ∷ []));
     }

@@ -1,6 +1,6 @@
--- PROMISE: what the program's calls come to, whatever the chunks. From a box that keeps its rules and an assembly buffer with room, the lines
--- are those of the engine's replies to the checked bodies of all the octets, in order, and the box at the end is the engine's over these
--- bodies.
+-- PROMISE: what the program's calls come to, whatever the chunks. From a box that keeps its rules, a fresh reader and an assembly buffer with
+-- room, the lines that `receive_line` leaves are, end to end, those of the engine's replies to the checked bodies of all the octets, in order,
+-- and the box at the end is the engine's over these bodies.
 use mathlib.Core.Bool.{true, false}
 use mathlib.Core.Path.{_≡_, refl, sym, ap, ap₂, subst, _∙_}
 use mathlib.Core.List.{List, [], _∷_, _++_, append-nil, foldl}
@@ -34,7 +34,7 @@ use Rattle.serial.proofs.GoesOn.{not-refused}
 use Rattle.serial.proofs.LawsReceiving.{found, unrefused-device, unrefused-read}
 use Rattle.serial.proofs.LawsHistories.{checked-append}
 use Rattle.ncp.specs.Turn.{replyBody}
-use Rattle.ncp.specs.Serve.{State, keeps, start, gives, next, lineFor, offers, offered, chunkLeaves, chunkLines, chunksLeave, linesOf}
+use Rattle.ncp.specs.Serve.{State, keeps, start, gives, next, lineFor, feeds, fed, chunkLeaves, chunkLines, chunksLeave, linesOf}
 use Rattle.ncp.proofs.LawsServing.{next-keeps, next-reads}
 
 -- after an open piece p, octets and what comes of them: these lines and the state t
@@ -121,23 +121,23 @@ next-less n s xs k few t =
     let some : 0 < length xs = omega (arith, eqb-false (length xs) 0 t) in
     omega (arith, length-drop (gives s xs .read) xs, next-reads s xs k some)
 
-comes-offers : (n : ℕ) (s : State) (p xs : List ℕ) → length xs ≤ n → keeps s → After p (assembling (s .reader) (s .assembly))
-    → Comes s p xs (emitted lineFor next s (offers n s xs)) (foldl next s (offers n s xs))
-unfolding offers
-comes-offers zero s p xs few k a = subst (λ l. Comes s p l [] s) (sym (empty xs (omega arith))) (comes-none s p k a)
-comes-offers (suc n) s p xs few k a =
+comes-feeds : (n : ℕ) (s : State) (p xs : List ℕ) → length xs ≤ n → keeps s → After p (assembling (s .reader) (s .assembly))
+    → Comes s p xs (emitted lineFor next s (feeds n s xs)) (foldl next s (feeds n s xs))
+unfolding feeds
+comes-feeds zero s p xs few k a = subst (λ l. Comes s p l [] s) (sym (empty xs (omega arith))) (comes-none s p k a)
+comes-feeds (suc n) s p xs few k a =
     let rest = drop (gives s xs .read) xs in
-    let calls = offers n (next s xs) rest in
+    let calls = feeds n (next s xs) rest in
     let one = comes-call s p xs k a in
     chosen (λ (l : List (List ℕ)). Comes s p xs (emitted lineFor next s l) (foldl next s l)) (eqb (length xs) 0)
     (λ t. subst (λ l. Comes s p l [] s) (sym (empty xs (eqb-true _ _ t))) (comes-none s p k a))
     (λ t.
     subst (λ l. Comes s p l (lineFor s xs ++ emitted lineFor next (next s xs) calls) (foldl next (next s xs) calls)) (both-parts s p xs k a)
-    (comes-then one (comes-offers n (next s xs) (unfinished p (callReads p xs)) rest (next-less n s xs k few t) (one .keeps) (one .piece))))
+    (comes-then one (comes-feeds n (next s xs) (unfinished p (callReads p xs)) rest (next-less n s xs k few t) (one .keeps) (one .piece))))
 
 pub comes-chunk : (s : State) (p xs : List ℕ) → keeps s → After p (assembling (s .reader) (s .assembly)) → Comes s p xs (chunkLines s xs) (chunkLeaves s xs)
-unfolding chunkLines chunkLeaves offered
-comes-chunk s p xs k a = comes-offers (length xs) s p xs (omega arith) k a
+unfolding chunkLines chunkLeaves fed
+comes-chunk s p xs k a = comes-feeds (length xs) s p xs (omega arith) k a
 
 -- ---- chunks
 

@@ -1,5 +1,6 @@
 -- The program's calls one after the other, and their lines.
-use mathlib.Core.Bool.{false, cond}
+use mathlib.Core.Bool.{true, false, cond}
+use mathlib.Core.Logic.{_⊎_}
 use mathlib.Core.List.{List, [], _∷_, foldl}
 use mathlib.Core.Path.{_≡_}
 use Prim.Native.Nat.{ℕ, zero, suc}
@@ -12,6 +13,7 @@ use Rattle.hdlc.specs.Reader.{fresh}
 use Rattle.device.specs.declared.state.Device.{Device}
 use Rattle.serial.specs.Receiving.{Result, Keeps}
 use Rattle.ncp.specs.declared.serve.Session.{Session}
+use Rattle.ncp.specs.declared.serve.Progress.{Progress}
 use Rattle.ncp.specs.Turn.{received, replyBody}
 
 -- what stands between two calls
@@ -44,20 +46,20 @@ lineFor s xs = lineOf (replyBody (s .device) (gives s xs))
 
 -- ---- a chunk
 
--- it is offered to a call, and what the call left unread is offered again, until nothing is left; at most so many calls
-unfoldable pub offers : ℕ → State → List ℕ → List (List ℕ)
-offers zero s xs = []
-offers (suc n) s xs = cond (eqb (length xs) 0) [] (xs ∷ offers n (next s xs) (drop (gives s xs .read) xs))
+-- it is fed to a call, and what the call left unread is fed again, until nothing is left; at most so many calls
+unfoldable pub feeds : ℕ → State → List ℕ → List (List ℕ)
+feeds zero s xs = []
+feeds (suc n) s xs = cond (eqb (length xs) 0) [] (xs ∷ feeds n (next s xs) (drop (gives s xs .read) xs))
 
 -- a call reads an octet at least: so many calls are enough
-unfoldable pub offered : State → List ℕ → List (List ℕ)
-offered s xs = offers (length xs) s xs
+unfoldable pub fed : State → List ℕ → List (List ℕ)
+fed s xs = feeds (length xs) s xs
 
 unfoldable pub chunkLeaves : State → List ℕ → State
-chunkLeaves s xs = foldl next s (offered s xs)
+chunkLeaves s xs = foldl next s (fed s xs)
 
 unfoldable pub chunkLines : State → List ℕ → List ℕ
-chunkLines s xs = emitted lineFor next s (offered s xs)
+chunkLines s xs = emitted lineFor next s (fed s xs)
 
 -- ---- chunks
 
@@ -67,7 +69,19 @@ chunksLeave s xss = foldl chunkLeaves s xss
 unfoldable pub linesOf : State → List (List ℕ) → List ℕ
 linesOf s xss = emitted chunkLines chunkLeaves s xss
 
--- a session that stands where some chunks leave it, unless a line could not be written. Which chunks came is the operating system's part
-pub record Served (s : State) (t : Session) (a : List ℕ) : Type 0 where
+-- the most reads that the program makes
+abbrev pub maxReads : ℕ
+maxReads = 18446744073709551615
+
+-- unless a line could not be written, the session stands where some chunks leave it, one a read. Which chunks came is the operating system's
+-- part
+pub record Served (s : State) (t : Session) (a : List ℕ) (reads : ℕ) : Type 0 where
   pub chunks : List (List ℕ)
+  pub count : length chunks ≡ reads
   pub left : t .stopped ≡ false → stateOf t a ≡ chunksLeave s chunks
+
+-- the program ends when a line could not be written, when a read gave nothing, or after all its reads
+pub record Ended (s : State) (p : Progress) (a : List ℕ) : Type 0 where
+  pub reads : ℕ
+  pub served : Served s (p .session) a reads
+  pub why : (p .session .stopped ≡ true) ⊎ ((p .read ≡ 0) ⊎ (reads ≡ maxReads))

@@ -1,5 +1,5 @@
-// Standard input and output around the box. Which octets come in, and that the lines go out, is the operating system's part: no contract can
-// say it, and it is run and compared.
+// Standard input and output around the box. What a read gives, and that a line goes out, is the operating system's part: no contract can say
+// it, and it is run and compared.
 use crate::turn::Turn;
 use crate::turn::receive_line;
 use device::Device;
@@ -12,7 +12,7 @@ ghost use Prim.Native.Nat.{_≤_};
 ghost use lib.ListN.{length, take};
 ghost use Rattle.hdlc.specs.Reader.{maxGathered};
 ghost use Rattle.device.specs.Rules.{rules};
-ghost use Rattle.ncp.specs.Serve.{stateOf, keeps, start, gives, next, chunkLeaves, Served};
+ghost use Rattle.ncp.specs.Serve.{stateOf, keeps, start, gives, next, chunkLeaves, Ended};
 
 // The box and its reader between two calls.
 pub struct Session {
@@ -23,10 +23,10 @@ pub struct Session {
 }
 
 // A session after some octets of its input.
-struct Progress {
-    session: Session,
+pub struct Progress {
+    pub session: Session,
     // How many octets were read last.
-    read: usize,
+    pub read: usize,
 }
 
 // One call, and its line.
@@ -89,28 +89,31 @@ fn serve_read(session: Session, chunk: &mut [u8], assembly: &mut [u8]) -> Progre
 
 // A proved loop has to end, and nothing says that the input does. So the reads are counted down from 2^64 - 1, which takes 584 years at one
 // each nanosecond.
-pub fn serve(device: Device, assembly: &mut [u8]) -> Session
+pub fn serve(device: Device, assembly: &mut [u8]) -> Progress
     requires rules { ⌜ rules device ≡ true ⌝ }
     requires room { ⌜ maxGathered ≤ length (now assembly) ⌝ }
-    ensures { λ s. ⌜ Served (start device (now (assembly .entry))) s (now (assembly .exit)) ⌝ }
+    ensures { λ p. ⌜ Ended (start device (now (assembly .entry))) p (now (assembly .exit)) ⌝ }
 {
-    let mut session = Session {
-        device,
-        reader: Reader::fresh(),
-        stopped: false,
+    let mut progress = Progress {
+        session: Session {
+            device,
+            reader: Reader::fresh(),
+            stopped: false,
+        },
+        read: 0,
     };
     let mut chunk = io::buffer();
     let mut reads = u64::MAX;
     while 0 < reads {
-        let progress = serve_read(session, &mut chunk, assembly);
-        session = progress.session;
-        if progress.read == 0 {
-            return session;
-        }
-        if session.stopped {
-            return session;
-        }
+        progress = serve_read(progress.session, &mut chunk, assembly);
         reads -= 1;
+        if progress.read == 0 {
+            return progress;
+        }
+        let session = progress.session;
+        if session.stopped {
+            return progress;
+        }
     }
-    session
+    progress
 }

@@ -49,7 +49,7 @@ noNumber = record { width = 0; low = 0; high = 0; top = 0; outside = 0; default 
 abbrev pub numberAt : ℕ → Number
 numberAt slot = getD numbers slot noNumber
 
--- "65 interface up" and "66 stack up"
+-- the slots of "65 interface up" and "66 stack up"
 abbrev pub interfaceUp : ℕ
 interfaceUp = 4
 

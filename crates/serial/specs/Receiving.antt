@@ -110,14 +110,14 @@ receive d r input a out =
     (cond (ltb (length out) minOutput) (refused 13 d r a out)
     (unrefused frame d (run (assembling r a) input) out)))
 
--- the same before framing: a reply goes out as its body, for which any space lent has room
+-- the same before framing: a reply goes out as its body. The code lends a space of 61 octets, which has room for any
 unfoldable pub receiveBody : Device → Reader → List ℕ → List ℕ → List ℕ → Result
 receiveBody d r input a space =
     cond (breaksRules d r) (refused 11 d r a space)
     (cond (ltb (length a) maxGathered) (refused 12 d r a space)
     (unrefused (λ b. b) d (run (assembling r a) input) space))
 
--- the first with an output, from the second: what was written is framed into it
+-- what `receiveBody` gave, with what it wrote framed into an output: `receive` (proofs/Framing.antt)
 unfoldable pub framed : Result → List ℕ → Result
 framed r out =
     let xs = cond (eqb (r .written) 0) [] (frame (take (r .written) (r .output))) in

@@ -44,7 +44,7 @@ pub struct Received {
     pub answer: Answer,
     // How many octets of the input were read, the deciding flag included.
     pub read: usize,
-    // How many octets of a reply were written, from the front of the output.
+    // How many octets were written for a reply, from the front of the output or, before framing, of the space.
     pub written: usize,
     pub device: Device,
     pub reader: Reader,
