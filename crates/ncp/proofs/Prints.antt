@@ -27,12 +27,11 @@ use Rattle.device.specs.State.{maxReply}
 use Rattle.device.specs.declared.state.Device.{Device}
 use Rattle.device.specs.Rules.{rules}
 use Rattle.engine.specs.Merged.{deviceAfter, repliesTo}
-use Rattle.engine.proofs.RepliesInOrder.{device-append, replies-append}
 use Rattle.serial.specs.Receiving.{unrefused}
 use Rattle.serial.specs.Histories.{checkedOf, checkedIn}
 use Rattle.serial.proofs.GoesOn.{not-refused}
 use Rattle.serial.proofs.LawsReceiving.{found, unrefused-device, unrefused-read}
-use Rattle.serial.proofs.LawsHistories.{checked-append}
+use Rattle.serial.proofs.LawsHistories.{device-joined, replies-joined}
 use Rattle.ncp.specs.Turn.{replyBody}
 use Rattle.ncp.specs.Serve.{State, keeps, start, gives, next, lineFor, feeds, fed, chunkLeaves, chunkLines, chunksLeave, linesOf}
 use Rattle.ncp.proofs.LawsServing.{next-keeps, next-reads}
@@ -46,19 +45,12 @@ pub record Comes (s : State) (p xs ls : List ℕ) (t : State) : Type 0 where
 
 comes-then : {s t u : State} {p xs ys l m : List ℕ} → Comes s p xs l t → Comes t (unfinished p xs) ys m u → Comes s p (xs ++ ys) (l ++ m) u
 comes-then {s} {t} {u} {p} {xs} {ys} {l} {m} v w =
-    let bs = checkedIn p xs in
     let cs = checkedIn (unfinished p xs) ys in
-    let all : checkedIn p (xs ++ ys) ≡ bs ++ cs = checked-append p xs ys in
     record {
       lines =
           ap₂ _++_ (v .lines) (w .lines ∙ ap (λ d. each lineOf (repliesTo d cs)) (v .device))
-          ∙ sym
-          (ap (λ z. each lineOf (repliesTo (s .device) z)) all
-          ∙ ap (each lineOf) (replies-append (s .device) bs cs)
-          ∙ each-append lineOf (repliesTo (s .device) bs) (repliesTo (deviceAfter (s .device) bs) cs));
-      device =
-          w .device ∙ ap (λ d. deviceAfter d cs) (v .device)
-          ∙ sym (ap (deviceAfter (s .device)) all ∙ device-append (s .device) bs cs);
+          ∙ sym (ap (each lineOf) (replies-joined (s .device) p xs ys) ∙ each-append lineOf (repliesTo (s .device) (checkedIn p xs)) _);
+      device = w .device ∙ ap (λ d. deviceAfter d cs) (v .device) ∙ sym (device-joined (s .device) p xs ys);
       keeps = w .keeps;
       piece = subst (λ q. After q (assembling (u .reader) (u .assembly))) (sym (unfinished-append p xs ys)) (w .piece);
     }

@@ -38,6 +38,15 @@ checked-append p xs ys =
     ∙ ap checkedOf (each-append _ (finished p xs) (finished (unfinished p xs) ys))
     ∙ each-append _ (fatesOf (finished p xs)) (fatesOf (finished (unfinished p xs) ys))
 
+-- so the box after them, and the replies to them
+pub device-joined : (d : Device) (p xs ys : List ℕ)
+    → deviceAfter d (checkedIn p (xs ++ ys)) ≡ deviceAfter (deviceAfter d (checkedIn p xs)) (checkedIn (unfinished p xs) ys)
+device-joined d p xs ys = ap (deviceAfter d) (checked-append p xs ys) ∙ device-append d (checkedIn p xs) (checkedIn (unfinished p xs) ys)
+
+pub replies-joined : (d : Device) (p xs ys : List ℕ)
+    → repliesTo d (checkedIn p (xs ++ ys)) ≡ repliesTo d (checkedIn p xs) ++ repliesTo (deviceAfter d (checkedIn p xs)) (checkedIn (unfinished p xs) ys)
+replies-joined d p xs ys = ap (repliesTo d) (checked-append p xs ys) ∙ replies-append d (checkedIn p xs) (checkedIn (unfinished p xs) ys)
+
 pub frames-append : (d : Device) (bs cs : List (List ℕ))
     → map frame (repliesTo d (bs ++ cs)) ≡ map frame (repliesTo d bs) ++ map frame (repliesTo (deviceAfter d bs) cs)
 frames-append d bs cs = ap (map frame) (replies-append d bs cs) ∙ map-append frame (repliesTo d bs) (repliesTo (deviceAfter d bs) cs)
@@ -200,14 +209,11 @@ runs a p t (c ∷ cs) s =
     let xs = laidFrom a q cs in
     let one = step a p t c s in
     let rest = runs a q (next t c) cs (one .stands) in
-    let all = checked-append p w xs in
     record {
       read = ap₂ _++_ (one .read) (rest .read);
       replies =
           ap₂ _++_ (one .reply) (rest .replies ∙ ap (λ d. map frame (repliesTo d (checkedIn q xs))) (one .device))
-          ∙ sym (ap (λ bs. map frame (repliesTo (t .device) bs)) all ∙ frames-append (t .device) (checkedIn p w) (checkedIn q xs));
-      device =
-          rest .device ∙ ap (λ d. deviceAfter d (checkedIn q xs)) (one .device)
-          ∙ sym (ap (deviceAfter (t .device)) all ∙ device-append (t .device) (checkedIn p w) (checkedIn q xs));
+          ∙ sym (ap (map frame) (replies-joined (t .device) p w xs) ∙ map-append frame (repliesTo (t .device) (checkedIn p w)) _);
+      device = rest .device ∙ ap (λ d. deviceAfter d (checkedIn q xs)) (one .device) ∙ sym (device-joined (t .device) p w xs);
       stands = rw (unfinished-append p w xs) (rest .stands);
     }
