@@ -2,16 +2,16 @@
 -- for are a body and that body's check, and the body has 2 to 1,300 octets and the top two header bits 10. So a call gives fate 1 for such
 -- bodies only.
 use mathlib.Core.Logic.{⊎-elim}
-use mathlib.Core.Path.{_≡_, refl, sym, ap, subst, _∙_}
+use mathlib.Core.Path.{_≡_, sym, ap, subst, _∙_}
 use mathlib.Core.List.{List}
-use Prim.Native.Nat.{ℕ, _-_, _/_, _≤_}
+use Prim.Native.Nat.{ℕ, _-_, _≤_}
 use native.Mathlib.Omega.{arith}
 use borrow.Author.Tests.{le-ltb, eq-eqb, ne-eqb}
 use lib.ListN.{length, getD, take, length-take}
 use Rattle.octets.specs.Body.{SpinelBody}
 use Rattle.hdlc.specs.declared.reader.Fate.the-variants.{Checked}
 use Rattle.hdlc.specs.declared.reader.Reader.{Reader}
-use Rattle.hdlc.specs.Fate.{Fated, checked}
+use Rattle.hdlc.specs.Fate.{checked}
 use Rattle.hdlc.specs.Reader.{maxGathered, assembling, outcome, run}
 use Rattle.hdlc.specs.Rules.{Rules}
 use Rattle.hdlc.specs.Wire.{gathered, contentFate, pieceFate, CheckedPiece, call}

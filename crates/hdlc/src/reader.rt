@@ -3,7 +3,7 @@ use frame::OctetKind;
 use frame::fcs16;
 use frame::kind_of;
 use octets::read_le;
-ghost use mathlib.Core.Bool.{Bool, true};
+ghost use mathlib.Core.Bool.{true};
 ghost use mathlib.Core.Path.{_≡_};
 ghost use Prim.Native.Nat.{_≤_};
 ghost use lib.ListN.{length};

@@ -8,7 +8,7 @@ use Prim.Native.Nat.{ℕ, zero, suc, _≤_, _<_}
 use native.Mathlib.Omega.{arith}
 use borrow.Author.Tests.{eqb-true, eqb-false}
 use lib.Dec.{eqb}
-use lib.ListN.{length, take, drop, replicate, length-drop, take-append-drop}
+use lib.ListN.{length, drop, replicate, length-drop, take-append-drop}
 use Rattle.octets.specs.Runs.{each, emitted}
 use Rattle.octets.proofs.LawsLists.{empty}
 use Rattle.octets.proofs.LawsRuns.{each-append}

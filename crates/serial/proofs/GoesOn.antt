@@ -1,6 +1,6 @@
 -- PROMISE: where box and reader keep their rules and the assembly buffer has room, the call before framing is not refused, reads an octet at
 -- least of an input that has one and no more than there are, and leaves a box, a reader and a buffer of which the same holds.
-use mathlib.Core.Bool.{true, false, cond}
+use mathlib.Core.Bool.{true}
 use mathlib.Core.Path.{_≡_, ap, _∙_}
 use mathlib.Core.List.{List}
 use Prim.Native.Nat.{ℕ, _≤_, _<_}
@@ -11,7 +11,7 @@ use lib.ListN.{length}
 use Rattle.octets.proofs.LawsTests.{by-test}
 use Rattle.hdlc.specs.declared.reader.Reader.{Reader}
 use Rattle.hdlc.specs.Fate.{decided}
-use Rattle.hdlc.specs.Reader.{maxGathered, assembling, Outcome, run}
+use Rattle.hdlc.specs.Reader.{assembling, Outcome, run}
 use Rattle.hdlc.specs.Rules.{rules as readerRules}
 use Rattle.hdlc.specs.Wire.{call}
 use Rattle.hdlc.specs.States.{openPiece, closedForm}

@@ -6,7 +6,6 @@ use native.Mathlib.Omega.{arith}
 use borrow.Author.Needs.{needs}
 use borrow.Author.Tests.{eq-eqb, ne-eqb, lt-ltb, le-ltb}
 use lib.Dec.{eqb}
-use lib.ListN.{length, getD}
 use lib.Seq.{length-take-le}
 use Rattle.octets.specs.Body.{headerOf}
 use Rattle.frame.specs.Fcs.{fcs}

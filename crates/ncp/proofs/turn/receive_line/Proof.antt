@@ -1,12 +1,9 @@
 -- What was written is the engine's reply, whose line fits.
-use mathlib.Core.Path.{_≡_, refl, sym}
-use Prim.Native.Nat.{_*_, _≤_}
+use mathlib.Core.Path.{refl, sym}
 use native.Mathlib.Omega.{arith}
 use borrow.Author.Needs.{needs}
-use lib.ListN.{length, take}
 use lib.Seq.{length-take-le}
 use Rattle.serial.specs.Receiving.{Result, resultOf}
-use Rattle.ncp.specs.Turn.{maxLine}
 use Rattle.ncp.proofs.LawsTurns.{Turned, turned}
 use Rattle.ncp.proofs.turn.receive_line.Statement.{statement}
 use Rattle.ncp.proofs.turn.receive_line.Tie as tie
