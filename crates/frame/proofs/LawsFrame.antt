@@ -1,17 +1,15 @@
--- Laws of written frames: octets as they are sent, one by one, a frame in the order in which it is written, and that a frame of octets
--- is the frame of octets.
+-- Laws of written frames: octets as they are sent, one by one, and a frame in the order in which it is written.
 use types.Run.{OneOf, miss}
 use denote.Enum.Declared.{tagOf}
 use mathlib.Core.Path.{_≡_, sym, ap, _∙_}
 use mathlib.Core.List.{List, [], _∷_, _++_, append-assoc}
-use Prim.Native.Nat.{ℕ, zero, suc, _+_, _<_, _≤_}
+use Prim.Native.Nat.{ℕ, _+_, _<_, _≤_}
 use native.Mathlib.Omega.{arith}
 use lib.Bits.{bitXor}
 use lib.ListN.{length, getD, drop, length-append, drop-of-length-le}
-use Rattle.octets.specs.Octets.{Octets}
 use Rattle.octets.specs.LittleEndian.{leOctets}
 use Rattle.octets.specs.Writing.{Wrote}
-use Rattle.octets.proofs.LawsLists.{drop-next, octets-front, octets-rest}
+use Rattle.octets.proofs.LawsLists.{drop-next}
 use Rattle.octets.proofs.LawsLittleEndian.{length-le}
 use Rattle.octets.proofs.LawsRuns.{each-append}
 use Rattle.octets.proofs.LawsWriting.{front-count, front-held}
@@ -21,7 +19,7 @@ use Rattle.frame.specs.Kind.{kindOf}
 use Rattle.frame.specs.Fcs.{fcs}
 use Rattle.frame.specs.Frame.{sent, stuffed, withCheck, frame, written, writing}
 use Rattle.frame.proofs.kind.OctetKind.{the-type as kind-type}
-use Rattle.frame.proofs.LawsKinds.{Tests, by-octet, flags, escapes, skips, kind-tests}
+use Rattle.frame.proofs.LawsKinds.{Tests, flags, escapes, skips, kind-tests}
 
 pub sent-plain : {k : OctetKind} (b : ℕ) → k ≡ kindOf b → k ≡ Plain → sent b ≡ b ∷ []
 unfolding sent
@@ -73,23 +71,3 @@ pub frame-written : {out out′ : List ℕ} {next : ℕ} (body : List ℕ) → l
     → Wrote out out′ 0 next (frame body) → written next out′ ≡ writing body out
 unfolding writing
 frame-written body room w = λ i. record { count = front-count room w i; output = front-held room w i }
-
--- ---- a frame of octets is the frame of octets
-
-sent-octet : (b : ℕ) → Octets (sent b) → b < 256
-unfolding sent
-sent-octet =
-    by-octet (λ b. Octets (sent b) → b < 256) (λ o. omega arith) (λ o. omega arith) (λ o. omega arith) (λ o. omega arith) (λ o. omega arith)
-    (λ b t. simp (t .flag, t .escape, t .skipped) (λ o. o zero))
-
-stuffed-octets : (xs : List ℕ) → Octets (stuffed xs) → Octets xs
-unfolding stuffed
-stuffed-octets [] o k = o k
-stuffed-octets (x ∷ xs) o zero = sent-octet x (octets-front (sent x) (stuffed xs) o)
-stuffed-octets (x ∷ xs) o (suc k) = stuffed-octets xs (octets-rest (sent x) (stuffed xs) o) k
-
-pub unframed-octets : (body : List ℕ) → Octets (frame body) → Octets body
-unfolding frame withCheck
-unframed-octets body o =
-    octets-front body (leOctets 2 (fcs body))
-    (stuffed-octets (withCheck body) (octets-front (stuffed (withCheck body)) (0x7e ∷ []) (λ k. o (suc k))))

@@ -1,11 +1,11 @@
 -- Laws of lists that the code's places and parts ask for.
 use mathlib.Core.Path.{_≡_, refl, ap}
-use mathlib.Core.List.{List, [], _∷_, _++_}
+use mathlib.Core.List.{List, [], _∷_}
 use Prim.Native.Nat.{ℕ, zero, suc, _+_, _-_, _<_}
 use native.Mathlib.Omega.{arith}
 use native.Mathlib.Numerals.{add-one}
 use lib.ListN.{length, getD, take, drop, length-drop}
-use lib.Seq.{drop-cons, getD-drop, take-all, take-append-seam, getD-append-add}
+use lib.Seq.{drop-cons, getD-drop, take-all}
 use Rattle.octets.specs.Octets.{Octets}
 
 pub empty : (xs : List ℕ) → length xs ≡ 0 → xs ≡ []
@@ -35,10 +35,3 @@ octets-take zero xs o k = omega arith
 octets-take (suc n) [] o k = omega arith
 octets-take (suc n) (x ∷ xs) o zero = o zero
 octets-take (suc n) (x ∷ xs) o (suc k) = octets-take n xs (λ j. o (suc j)) k
-
--- the two parts of a list of octets
-pub octets-front : (xs ys : List ℕ) → Octets (xs ++ ys) → Octets xs
-octets-front xs ys o = rw take-append-seam at (octets-take (length xs) (xs ++ ys) o)
-
-pub octets-rest : (xs ys : List ℕ) → Octets (xs ++ ys) → Octets ys
-octets-rest xs ys o k = rw getD-append-add at (o (length xs + k))

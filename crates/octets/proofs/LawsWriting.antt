@@ -4,8 +4,8 @@ use mathlib.Core.List.{List, [], _∷_, _++_}
 use Prim.Native.Nat.{ℕ, suc, _+_, _<_, _≤_}
 use native.Mathlib.Omega.{arith}
 use native.Mathlib.Nat.{add-zero, zero-add}
-use lib.ListN.{length, getD, take, drop, set, length-append}
-use lib.Seq.{sets, sets-eq, take-append-seam}
+use lib.ListN.{length, getD, drop, set, length-append}
+use lib.Seq.{sets, sets-eq}
 use Rattle.octets.specs.Writing.{Wrote}
 use Rattle.octets.proofs.LawsLists.{drop-next}
 
@@ -37,9 +37,6 @@ module _ {s t : List ℕ} {next : ℕ} {xs : List ℕ} (room : length xs ≤ len
 
   pub front-held : t ≡ xs ++ drop (length xs) s
   front-held = w .held ∙ sets-front xs s room
-
-  pub front-taken : take next t ≡ xs
-  front-taken = rw (front-count, front-held) (take-append-seam xs (drop (length xs) s))
 
 -- what is still to be put, with its first octet put
 pub put-next : (l : List ℕ) (at i : ℕ) (xs : List ℕ) → i < length xs
