@@ -1,10 +1,10 @@
 -- PROMISE: what the program's calls come to, whatever the chunks. From a box that keeps its rules, a fresh reader and an assembly buffer with
 -- room, the lines that `receive_line` leaves are, end to end, those of the engine's replies to the checked bodies of all the octets, in order,
--- and the box at the end is the engine's over these bodies.
+-- and the box at the end is the engine's over these bodies. The program makes 2^64 - 1 reads at most.
 use mathlib.Core.Bool.{true, false}
 use mathlib.Core.Path.{_≡_, refl, sym, ap, ap₂, subst, _∙_}
 use mathlib.Core.List.{List, [], _∷_, _++_, append-nil, foldl}
-use Prim.Native.Nat.{ℕ, zero, suc, _≤_, _<_}
+use Prim.Native.Nat.{ℕ, zero, suc, _+_, _^_, _≤_, _<_}
 use native.Mathlib.Omega.{arith}
 use borrow.Author.Tests.{eqb-true, eqb-false}
 use lib.Dec.{eqb}
@@ -33,7 +33,7 @@ use Rattle.serial.proofs.GoesOn.{not-refused}
 use Rattle.serial.proofs.LawsReceiving.{found, unrefused-device, unrefused-read}
 use Rattle.serial.proofs.LawsHistories.{device-joined, replies-joined}
 use Rattle.ncp.specs.Turn.{replyBody}
-use Rattle.ncp.specs.Serve.{State, keeps, start, gives, next, lineFor, feeds, fed, chunkLeaves, chunkLines, chunksLeave, linesOf}
+use Rattle.ncp.specs.Serve.{State, keeps, start, gives, next, lineFor, feeds, fed, chunkLeaves, chunkLines, chunksLeave, linesOf, maxReads}
 use Rattle.ncp.proofs.LawsServing.{next-keeps, next-reads}
 
 -- after an open piece p, octets and what comes of them: these lines and the state t
@@ -154,3 +154,8 @@ module _ (d : Device) (a : List ℕ) (xss : List (List ℕ)) (kept : rules d ≡
 
   pub leaves : chunksLeave (start d a) xss .device ≡ deviceAfter d (checkedIn [] (each (λ xs. xs) xss))
   leaves = comes .device
+
+-- ---- the program's reads are as many as a 64-bit number counts
+
+pub all-reads : maxReads + 1 ≡ 2 ^ 64
+all-reads = refl
