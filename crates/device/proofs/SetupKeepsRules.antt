@@ -17,7 +17,7 @@ use Rattle.device.specs.State.{defaults, freshLink, noLink, fresh, addre
 use Rattle.device.specs.Text.{goodText, isText}
 use Rattle.device.specs.Ports.{portsIn, distinct}
 use Rattle.device.specs.Rules.{padded, textRule, portsRule, inRange, stackRule, sized, linkRule, atDefaults, isFresh, linkKept, settingsRule, rules}
-use Rattle.device.specs.Setup.{Report, isGoodSetup, settingsFrom, refusal, setupFor}
+use Rattle.device.specs.Setup.{Report, isGoodSetup, settingsFrom, refusal, setupFor, Setup, deviceFrom}
 use Rattle.device.proofs.LawsSetup.{setup-rule, setup-told}
 use Rattle.device.proofs.LawsRules.{text-told}
 
@@ -54,3 +54,6 @@ pub setup-keeps : (links vendor : ℕ) (text address : List ℕ) → rules (setu
 unfolding setupFor
 setup-keeps links vendor text address =
     chosen (λ (r : Report). rules (r .device) ≡ true) (isGoodSetup links vendor text address) (ready-keeps links vendor text address) (λ e. refusal-keeps)
+
+pub device-from-keeps : (s : Setup) → rules (deviceFrom s) ≡ true
+device-from-keeps s = setup-keeps (s .links) (s .vendor) (s .text) (s .address)

@@ -40,3 +40,14 @@ refusal = record { number = 14; device = fresh (settingsFrom 1 0 [] (replicate a
 unfoldable pub setupFor : ℕ → ℕ → List ℕ → List ℕ → Report
 setupFor links vendor text address =
     cond (isGoodSetup links vendor text address) (record { number = 0; device = fresh (settingsFrom links vendor text address) }) refusal
+
+-- what setup is given, good or bad
+pub record Setup : Type 0 where
+  pub links : ℕ
+  pub vendor : ℕ
+  pub text : List ℕ
+  pub address : List ℕ
+
+-- "what setup returns for the same settings, 14 included"
+abbrev pub deviceFrom : Setup → Device
+deviceFrom s = setupFor (s .links) (s .vendor) (s .text) (s .address) .device

@@ -1,6 +1,8 @@
+pub mod LawsSteps
+pub mod RulesKept
 pub mod Separation
 pub mod RepliesInOrder
-pub mod RulesKept
+pub mod AnyFraming
 pub mod ReplyBounds
 pub mod ReplyHeader
 pub mod Refusals

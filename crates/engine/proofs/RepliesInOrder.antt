@@ -6,8 +6,9 @@ use lib.ListN.{length}
 use Rattle.octets.proofs.LawsRuns.{emitted-append}
 use Rattle.octets.proofs.LawsTests.{by-test}
 use Rattle.device.specs.declared.state.Device.{Device}
-use Rattle.engine.specs.Merged.{deviceStep, deviceAfter, repliesTo, isAnswered, repliesOn, picked}
-use Rattle.engine.proofs.Separation.{step-settings}
+use Rattle.engine.specs.Merged.{deviceStep, deviceAfter, repliesTo}
+use Rattle.engine.specs.Links.{isAnswered, repliesOn, picked}
+use Rattle.engine.proofs.LawsSteps.{step-settings}
 
 pub device-append : (d : Device) (bs cs : List (List ℕ)) → deviceAfter d (bs ++ cs) ≡ deviceAfter (deviceAfter d bs) cs
 unfolding deviceAfter

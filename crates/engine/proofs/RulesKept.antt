@@ -23,7 +23,7 @@ use Rattle.command.specs.Effects.{isReset, isPower, effectOf}
 use Rattle.command.proofs.LawsDecisions.{decide-keeps}
 use Rattle.engine.specs.Engine.{linkOf, isSetUp, affect, engine}
 use Rattle.engine.specs.Merged.{deviceStep, deviceAfter}
-use Rattle.engine.proofs.Separation.{body-set-up, body-not-set-up}
+use Rattle.engine.proofs.LawsSteps.{body-set-up, body-not-set-up}
 
 abbrev Sane : Effect → Type 0
 Sane None = Unit {0}

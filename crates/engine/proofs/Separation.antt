@@ -9,7 +9,7 @@ use Prim.Native.Nat.{ℕ, _<_}
 use native.Mathlib.Omega.{arith}
 use borrow.Author.Tests.{eqb-true, eqb-false}
 use lib.Dec.{eqb}
-use lib.ListN.{length, length-set, getD-replicate}
+use lib.ListN.{length, getD-replicate}
 use lib.Seq.{getD-set-same, getD-set-other}
 use Rattle.octets.specs.Runs.{each, emitted}
 use Rattle.octets.proofs.LawsRuns.{emitted-append}
@@ -25,9 +25,10 @@ use Rattle.device.specs.declared.view.Effect.the-variants.{None, Reset, Powered
 use Rattle.device.specs.View.{viewOf}
 use Rattle.command.specs.Decision.{decide}
 use Rattle.command.specs.Effects.{isReset, effectOf}
-use Rattle.command.proofs.EffectsByOctets.{decide-effect}
 use Rattle.engine.specs.Engine.{linkOf, isSetUp, affect, settled, engine}
-use Rattle.engine.specs.Merged.{deviceStep, deviceAfter, whole, effectItem, itemOf, merged, isAnswered, repliesOn, moved, viewStep, viewAfter, replyTo, itemReplies, viewReplies}
+use Rattle.engine.specs.Merged.{deviceStep, deviceAfter, whole, effectItem, itemOf, merged, moved, viewStep, viewAfter, replyTo, itemReplies, viewReplies}
+use Rattle.engine.specs.Links.{isAnswered, repliesOn}
+use Rattle.engine.proofs.LawsSteps.{body-set-up, body-not-set-up, step-settings, step-four}
 
 -- ---- one body
 
@@ -43,41 +44,6 @@ module _ (d : Device) (size : length (d .links) ≡ maxLinks) (k : ℕ) (few : k
   view-other None j l n = cc (getD-set-other (d .links) j k l noLink n)
   view-other Reset j l n = cc (getD-replicate 4 k freshLink noLink few)
   view-other (Powered x) j l n = cc (getD-set-other (d .links) j k l noLink n)
-
-affect-settings : (e : Effect) (d : Device) (j : ℕ) (l : Link) → affect e d j l .settings ≡ d .settings
-unfolding affect fresh
-affect-settings None d j l = refl
-affect-settings Reset d j l = refl
-affect-settings (Powered x) d j l = refl
-
-affect-four : (e : Effect) (d : Device) (j : ℕ) (l : Link) → length (d .links) ≡ maxLinks → length (affect e d j l .links) ≡ maxLinks
-unfolding affect fresh
-affect-four None d j l h = length-set (d .links) j l ∙ h
-affect-four Reset d j l h = refl
-affect-four (Powered x) d j l h = length-set (d .links) j l ∙ h
-
--- a body on a link that is set up does to the box what its octets say, and to its link what it decides
-pub body-set-up : (d : Device) (b : List ℕ) → isSetUp (d .settings) b ≡ true
-    → engine d b .device ≡ affect (effectOf b) d (linkOf b) (decide (viewOf (linkOf b) d) b .link)
-unfolding engine settled
-body-set-up d b e = cc (decide-effect (viewOf (linkOf b) d) b)
-
--- a body on a link that is not set up changes nothing
-pub body-not-set-up : (d : Device) (b : List ℕ) → isSetUp (d .settings) b ≡ false → engine d b .device ≡ d
-unfolding engine
-body-not-set-up d b e = cc
-
-pub step-settings : (d : Device) (b : List ℕ) → deviceStep d b .settings ≡ d .settings
-step-settings d b =
-    by-test (isSetUp (d .settings) b)
-    (λ e. ap (λ x. x .settings) (body-set-up d b e) ∙ affect-settings (effectOf b) d (linkOf b) (decide (viewOf (linkOf b) d) b .link))
-    (λ e. ap (λ x. x .settings) (body-not-set-up d b e))
-
-step-four : (d : Device) (b : List ℕ) → length (d .links) ≡ maxLinks → length (deviceStep d b .links) ≡ maxLinks
-step-four d b h =
-    by-test (isSetUp (d .settings) b)
-    (λ e. rw (body-set-up d b e) (affect-four (effectOf b) d (linkOf b) (decide (viewOf (linkOf b) d) b .link) h))
-    (λ e. rw (body-not-set-up d b e) h)
 
 link-below : (b : List ℕ) → linkOf b < maxLinks
 unfolding linkOf

@@ -1,3 +1,5 @@
 pub mod Engine
 pub mod Merged
+pub mod Carried
+pub mod Links
 pub mod Marked

@@ -1,7 +1,7 @@
 -- Sequences of bodies, and what one link has to do with them (01, Whole histories).
 use Prim.Native.Nat.{ℕ}
-use mathlib.Core.Bool.{Bool, cond, not, _&&_}
-use mathlib.Core.List.{List, [], _∷_, _++_, foldl}
+use mathlib.Core.Bool.{cond, _&&_}
+use mathlib.Core.List.{List, [], _∷_, foldl}
 use lib.Dec.{eqb}
 use Rattle.octets.specs.Body.{headerOf}
 use Rattle.octets.specs.Runs.{each, emitted}
@@ -50,22 +50,7 @@ itemOf s k b = cond (eqb (linkOf b) k) (whole b ∷ []) (cond (isSetUp s b) (eff
 unfoldable pub merged : Settings → ℕ → List (List ℕ) → List Item
 merged s k bs = each (itemOf s k) bs
 
--- ---- a link's replies
-
--- "those to its checked frames but resets"
-unfoldable pub isAnswered : Settings → ℕ → List ℕ → Bool
-isAnswered s k b = eqb (linkOf b) k && not (isSetUp s b && isReset b)
-
-unfoldable pub repliesOn : ℕ → Device → List (List ℕ) → List (List ℕ)
-repliesOn k d bs = emitted (λ e b. cond (isAnswered (e .settings) k b) (engine e b .reply ∷ []) []) deviceStep d bs
-
--- a reply belongs to the body at its place; of replies to bodies, one to each, those to link k's bodies but resets
-unfoldable pub picked : {A : Type 0} → Settings → ℕ → List (List ℕ) → List A → List A
-picked s k [] rs = []
-picked s k (b ∷ bs) [] = []
-picked s k (b ∷ bs) (r ∷ rs) = cond (isAnswered s k b) (r ∷ []) [] ++ picked s k bs rs
-
--- ---- the same for the link alone, which knows nothing but its view and its merged sequence
+-- ---- a link alone, which knows nothing but its view and its merged sequence
 
 -- what an effect leaves of a view whose link a body left as l
 unfoldable pub moved : Effect → View → Link → View

@@ -2,22 +2,23 @@
 -- and what they leave is the unfinished piece.
 use mathlib.Core.Bool.{cond}
 use mathlib.Core.Path.{_≡_, refl, sym, ap, ap₂, subst, _∙_}
-use mathlib.Core.List.{List, [], _∷_, _++_, append-nil, foldl, foldl-append}
+use mathlib.Core.List.{List, [], _∷_, _++_, append-nil, foldl}
 use Prim.Native.Nat.{ℕ, zero, suc, _≤_, _<_}
 use native.Mathlib.Omega.{arith}
 use lib.ListN.{length, take, drop, length-drop, take-append-drop}
 use lib.Seq.{take-length}
 use Rattle.octets.specs.Runs.{each}
-use Rattle.octets.proofs.LawsRuns.{each-append, emitted-append}
+use Rattle.octets.proofs.LawsRuns.{emitted-append}
 use Rattle.octets.proofs.LawsTests.{by-test}
 use Rattle.frame.specs.Frame.{stuffed}
 use Rattle.hdlc.specs.declared.reader.Reader.{Reader}
 use Rattle.hdlc.specs.Fate.{decided}
 use Rattle.hdlc.specs.Reader.{maxGathered, fresh, Assembling, assembling, run}
 use Rattle.hdlc.specs.Rules.{Rules}
-use Rattle.hdlc.specs.Wire.{ended, grown, finished, unfinished, fatesOf, call, callReads, wire}
+use Rattle.hdlc.specs.Wire.{finished, unfinished, fatesOf, call, callReads, wire}
 use Rattle.hdlc.specs.States.{holding, openPiece, closedForm}
 use Rattle.hdlc.specs.Histories.{callsTell, callsLeave, offers, offered, chunked}
+use Rattle.hdlc.proofs.LawsPieces.{unfinished-append, fates-append}
 use Rattle.hdlc.proofs.LawsCalls.{After, after-call, call-tells, reads-all, reads-some}
 use Rattle.hdlc.proofs.ClosedForm.{call-closed, open-holds}
 use Rattle.hdlc.proofs.ReaderRules.{fresh-rules}
@@ -41,8 +42,8 @@ calls-tell (xs ∷ xss) p a room =
     record {
       tells =
           ap₂ _++_ (call-tells p a xs room) (rest .tells)
-          ∙ sym (ap fatesOf (emitted-append ended grown p w (wire q xss)) ∙ each-append _ (finished p w) (finished q (wire q xss)));
-      leaves = subst (λ z. After z (callsLeave (run (holding p a) xs .state) xss)) (sym (foldl-append grown p w (wire q xss))) (rest .leaves);
+          ∙ sym (fates-append p w (wire q xss));
+      leaves = subst (λ z. After z (callsLeave (run (holding p a) xs .state) xss)) (sym (unfinished-append p w (wire q xss))) (rest .leaves);
     }
 
 -- ---- from any reader that keeps its rules, whatever piece is open in it
@@ -87,7 +88,7 @@ wire-steps : (xss : List (List ℕ)) (p : List ℕ) → foldl (λ q xs. unfinish
 unfolding wire unfinished
 wire-steps [] p = refl
 wire-steps (xs ∷ xss) p =
-    wire-steps xss (unfinished p (callReads p xs)) ∙ sym (foldl-append grown p (callReads p xs) (wire (unfinished p (callReads p xs)) xss))
+    wire-steps xss (unfinished p (callReads p xs)) ∙ sym (unfinished-append p (callReads p xs) (wire (unfinished p (callReads p xs)) xss))
 
 chunked-read : (xss : List (List ℕ)) (p a : List ℕ) → maxGathered ≤ length a → wire p (chunked (holding p a) xss) ≡ each (λ xs. xs) xss
 unfolding chunked wire

@@ -12,7 +12,7 @@ use Rattle.octets.proofs.LawsTests.{by-test, impossible}
 use Rattle.frame.specs.Kind.{isFlag}
 use Rattle.hdlc.specs.Fate.{unchecked, decided, given}
 use Rattle.hdlc.specs.Reader.{maxGathered, fresh, Assembling, assembling, run}
-use Rattle.hdlc.specs.Wire.{kept, gathered, cutEscape, pieceFate, ended, grown, finished, unfinished, fatesOf, Call, pieceFateAt, call, callReads}
+use Rattle.hdlc.specs.Wire.{kept, gathered, cutEscape, pieceFate, ended, grown, finished, unfinished, fatesOf, checkedOf, checkedIn, Call, pieceFateAt, call, callReads}
 use Rattle.hdlc.specs.States.{readerAfter, over, holding, closedForm}
 use Rattle.hdlc.proofs.LawsFates.{by-piece}
 use Rattle.hdlc.proofs.LawsStates.{over-length, decides-flag}
@@ -98,6 +98,11 @@ after-call p a xs room =
 pub call-tells : (p a xs : List ℕ) → maxGathered ≤ length a → given (run (holding p a) xs .fate) ≡ fatesOf (finished p (callReads p xs))
 unfolding closedForm
 call-tells p a xs room = ap (λ o. given (o .fate)) (call-closed xs p a room) ∙ sym (reads xs p .tells)
+
+-- so the body that it checked, if any, is that of what it read
+pub call-checked : (p : List ℕ) (h : Assembling) (xs : List ℕ) → After p h → checkedOf (given (run h xs .fate)) ≡ checkedIn p (callReads p xs)
+unfolding checkedIn
+call-checked p h xs a = ap (λ s. checkedOf (given (run s xs .fate))) (a .state) ∙ ap checkedOf (call-tells p (a .under) xs (a .room))
 
 -- ---- how much it reads
 

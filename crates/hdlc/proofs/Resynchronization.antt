@@ -1,25 +1,28 @@
 -- PROMISE: a flag ends whatever was open. Whatever a reader holds, and whatever stands in its assembly buffer of 1,302 octets or more, 7E
 -- and then the frame of a body give first the fate of what was open, if it has one, and then fate 1 where the body's top two header bits
--- are 10 and fate 6 where not, with that body at the front of the buffer.
+-- are 10 and fate 6 where not, with that body at the front of the buffer. By the octets alone, whatever piece was open: any octets, then the
+-- frame of a Spinel body, then any octets have the checked bodies of the first and a flag, then that body, then those of the last.
 use mathlib.Core.Bool.{true, false, cond}
 use mathlib.Core.Path.{_≡_, refl, sym, ap, _∙_}
-use mathlib.Core.List.{List, [], _∷_, _++_}
+use mathlib.Core.List.{List, [], _∷_, _++_, append-assoc, append-nil}
 use Prim.Native.Nat.{ℕ, suc, _+_, _≤_}
 use native.Mathlib.Omega.{arith}
 use lib.ListN.{length, drop, drop-of-length-le}
 use lib.Seq.{drop-length}
-use Rattle.octets.specs.Body.{Body}
+use Rattle.octets.specs.Body.{Body, SpinelBody}
 use Rattle.octets.specs.Octets.{Octets}
 use Rattle.octets.proofs.LawsTests.{by-test}
 use Rattle.frame.specs.Kind.{isFlag}
-use Rattle.frame.specs.Frame.{withCheck, frame}
+use Rattle.frame.specs.Frame.{stuffed, withCheck, frame}
 use Rattle.hdlc.specs.declared.reader.Reader.{Reader}
 use Rattle.hdlc.specs.Fate.{Fated, decided, given, later}
 use Rattle.hdlc.specs.Reader.{headed, maxGathered, fresh, Assembling, assembling, afterOctet, flagFate, fateAt, Outcome, run}
+use Rattle.hdlc.specs.Wire.{kept, gathered, cutEscape, pieceFate, ended, grown, finished, unfinished, fatesOf, checkedOf, checkedIn}
 use Rattle.hdlc.specs.States.{frameRead}
 use Rattle.hdlc.specs.Histories.{callsTell, callsLeave, offers, offered}
 use Rattle.hdlc.proofs.LawsFates.{headed-decided}
-use Rattle.hdlc.proofs.RoundTrip.{round-trip}
+use Rattle.hdlc.proofs.LawsPieces.{unfinished-append, checked-append}
+use Rattle.hdlc.proofs.RoundTrip.{round-trip, frame-then}
 
 -- what 7E and a body's frame give
 pub record Resynchronized (r : Reader) (a body : List ℕ) : Type 0 where
@@ -93,3 +96,40 @@ module _ (r : Reader) (a body : List ℕ) (room : maxGathered ≤ length a) (siz
 
   pub resynchronizes : Resynchronized r a body
   resynchronizes = record { tells = calls .tells; leaves = calls .leaves }
+
+-- ---- by the octets alone
+
+-- a flag leaves nothing open
+flag-ends : (p xs : List ℕ) → unfinished p (xs ++ (0x7e ∷ [])) ≡ []
+unfolding unfinished grown isFlag
+flag-ends p xs = unfinished-append p xs (0x7e ∷ [])
+
+-- one with nothing before it is no frame
+flag-alone : (xs : List ℕ) → checkedIn [] (0x7e ∷ xs) ≡ checkedIn [] xs
+unfolding checkedIn checkedOf fatesOf finished ended grown isFlag pieceFate gathered cutEscape kept given
+flag-alone xs = refl
+
+-- so what a flag follows and what follows it have their own bodies
+flag-parts : (p xs ys : List ℕ) → checkedIn p (xs ++ (0x7e ∷ ys)) ≡ checkedIn p (xs ++ (0x7e ∷ [])) ++ checkedIn [] ys
+flag-parts p xs ys =
+    ap (checkedIn p) (sym (append-assoc xs (0x7e ∷ []) ys))
+    ∙ checked-append p (xs ++ (0x7e ∷ [])) ys
+    ∙ ap (λ q. checkedIn p (xs ++ (0x7e ∷ [])) ++ checkedIn q ys) (flag-ends p xs)
+
+-- and a second flag adds none
+pub flag-again : (p xs : List ℕ) → checkedIn p ((xs ++ (0x7e ∷ [])) ++ (0x7e ∷ [])) ≡ checkedIn p (xs ++ (0x7e ∷ []))
+unfolding checkedIn checkedOf fatesOf finished
+flag-again p xs =
+    ap (checkedIn p) (append-assoc xs (0x7e ∷ []) (0x7e ∷ []))
+    ∙ flag-parts p xs (0x7e ∷ [])
+    ∙ ap (λ l. checkedIn p (xs ++ (0x7e ∷ [])) ++ l) (flag-alone [])
+    ∙ append-nil (checkedIn p (xs ++ (0x7e ∷ [])))
+
+-- the first flag of a frame ends what was open before it
+pub frame-after : (p xs body ys : List ℕ) → SpinelBody body → Octets body
+    → checkedIn p (xs ++ (frame body ++ ys)) ≡ checkedIn p (xs ++ (0x7e ∷ [])) ++ (body ∷ checkedIn [] ys)
+unfolding frame
+frame-after p xs body ys spinel octets =
+    let rest : List ℕ = stuffed (withCheck body) ++ (0x7e ∷ []) in
+    flag-parts p xs (rest ++ ys)
+    ∙ ap (λ l. checkedIn p (xs ++ (0x7e ∷ [])) ++ l) (sym (flag-alone (rest ++ ys)) ∙ frame-then body spinel octets ys)

@@ -1,6 +1,7 @@
 -- PROMISE: a frame that was written is read back. A fresh reader with any assembly buffer of 1,302 octets or more reads a body's frame to
 -- its last flag, with fate 1 where the top two header bits are 10 and fate 6 where not, and leaves body and check at the front of the
--- buffer; the frame's octets alone tell the same fate, with the body where it is 1, and leave nothing unfinished.
+-- buffer; the frame's octets alone tell the same fate, with the body where it is 1, and leave nothing unfinished. So the frame of a Spinel
+-- body, and whatever octets behind it, have that checked body and then those of these octets.
 use mathlib.Core.Path.{_≡_, refl, sym, ap, _∙_}
 use mathlib.Core.List.{List, [], _∷_, _++_}
 use Prim.Native.Nat.{ℕ, suc, _+_, _-_, _≤_}
@@ -8,7 +9,7 @@ use native.Mathlib.Omega.{arith}
 use borrow.Author.Tests.{le-ltb, eq-eqb, ne-eqb}
 use lib.ListN.{length, take, drop, length-append}
 use lib.Seq.{take-at, drop-at, take-all, take-length}
-use Rattle.octets.specs.Body.{Body}
+use Rattle.octets.specs.Body.{Body, SpinelBody}
 use Rattle.octets.specs.Octets.{Octets}
 use Rattle.octets.specs.LittleEndian.{le, leAt, leOctets}
 use Rattle.octets.proofs.LawsLittleEndian.{length-le}
@@ -20,9 +21,10 @@ use Rattle.frame.proofs.LawsFcs.{fcs-bound}
 use Rattle.frame.proofs.LawsFrame.{checked-length}
 use Rattle.hdlc.specs.Fate.{given, later}
 use Rattle.hdlc.specs.Reader.{bodyOf, checkOf, frameFate, headed, maxGathered, fresh, assembling, run}
-use Rattle.hdlc.specs.Wire.{kept, gathered, cutEscape, pieceFate, grown, finished, unfinished, fatesOf, pieceFateAt, call, callReads}
+use Rattle.hdlc.specs.Wire.{kept, gathered, cutEscape, pieceFate, grown, finished, unfinished, fatesOf, checkedOf, checkedIn, pieceFateAt, call, callReads}
 use Rattle.hdlc.specs.States.{readerAfter, over, holding, closedForm, frameRead}
-use Rattle.hdlc.proofs.LawsFates.{headed-decided, content-fate}
+use Rattle.hdlc.proofs.LawsFates.{headed-checked, headed-decided, content-fate}
+use Rattle.hdlc.proofs.LawsPieces.{checked-append}
 use Rattle.hdlc.proofs.LawsStuffing.{stuffed-gives, stuffed-passed}
 use Rattle.hdlc.proofs.LawsStates.{over-few}
 use Rattle.hdlc.proofs.ClosedForm.{call-closed}
@@ -107,3 +109,18 @@ module _ (body : List ℕ) (size : Body body) (octets : Octets body) where
 
   pub frame-leaves : unfinished [] (frame body) ≡ []
   frame-leaves = rw (frame-reads, frame-call, headed-decided body) at (reads (frame body) [] .leaves)
+
+-- ---- a frame of a Spinel body, by the octets alone
+
+module _ (body : List ℕ) (spinel : SpinelBody body) (octets : Octets body) where
+  size : Body body
+  size = (spinel .0, spinel .1)
+
+  -- it is one checked body
+  pub frame-checked : checkedIn [] (frame body) ≡ body ∷ []
+  unfolding checkedIn checkedOf
+  frame-checked = ap checkedOf (frame-told body size octets) ∙ rw (headed-checked body (spinel .2))
+
+  -- and what stands behind it is told as if it stood alone
+  pub frame-then : (xs : List ℕ) → checkedIn [] (frame body ++ xs) ≡ body ∷ checkedIn [] xs
+  frame-then xs = checked-append [] (frame body) xs ∙ rw (frame-checked, frame-leaves body size octets)

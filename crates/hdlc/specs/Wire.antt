@@ -72,10 +72,18 @@ finished p xs = emitted ended grown p xs
 unfoldable pub unfinished : List ℕ → List ℕ → List ℕ
 unfinished p xs = foldl grown p xs
 
--- ---- the fates of pieces
+-- ---- the fates of pieces, and their checked bodies
 
 unfoldable pub fatesOf : List (List ℕ) → List Fated
 fatesOf ps = each (λ p. given (pieceFate p)) ps
+
+-- "A checked frame is one with fate 1"; the bodies of those among fates
+unfoldable pub checkedOf : List Fated → List (List ℕ)
+checkedOf vs = each (λ v. cond (eqb (v .number) 1) (v .body ∷ []) []) vs
+
+-- the checked bodies of the pieces that octets finish after an open piece p
+unfoldable pub checkedIn : List ℕ → List ℕ → List (List ℕ)
+checkedIn p xs = checkedOf (fatesOf (finished p xs))
 
 -- ---- a call reads "its input to the first flag with a fate, that flag included, else all"
 

@@ -18,9 +18,9 @@ use Rattle.frame.specs.Frame.{stuffed}
 use Rattle.hdlc.specs.Fate.{given}
 use Rattle.hdlc.specs.Reader.{maxGathered, fresh, assembling, Outcome, run}
 use Rattle.hdlc.specs.States.{openPiece, closedForm}
-use Rattle.hdlc.specs.Wire.{fatesOf, finished, unfinished, call, callReads}
+use Rattle.hdlc.specs.Wire.{fatesOf, finished, unfinished, checkedOf, checkedIn, call, callReads}
 use Rattle.hdlc.proofs.ClosedForm.{call-closed, open-holds}
-use Rattle.hdlc.proofs.LawsCalls.{After, after-call, call-tells}
+use Rattle.hdlc.proofs.LawsCalls.{After, after-call, call-checked}
 use Rattle.hdlc.proofs.LawsPieces.{unfinished-append}
 use Rattle.hdlc.proofs.ReaderRules.{fresh-rules, rules-hold}
 use Rattle.device.specs.State.{maxReply}
@@ -28,7 +28,6 @@ use Rattle.device.specs.declared.state.Device.{Device}
 use Rattle.device.specs.Rules.{rules}
 use Rattle.engine.specs.Merged.{deviceAfter, repliesTo}
 use Rattle.serial.specs.Receiving.{unrefused}
-use Rattle.serial.specs.Histories.{checkedOf, checkedIn}
 use Rattle.serial.proofs.GoesOn.{not-refused}
 use Rattle.serial.proofs.LawsReceiving.{found, unrefused-device, unrefused-read}
 use Rattle.serial.proofs.LawsHistories.{device-joined, replies-joined}
@@ -77,8 +76,8 @@ module _ (s : State) (p xs : List ℕ) (k : keeps s) (a : After p (assembling (s
   is = not-refused (s .device) (s .reader) xs (s .assembly) (replicate maxReply 0) k
 
   checks : checkedOf (given (outcome .fate)) ≡ checkedIn p (callReads p xs)
-  unfolding outcome checkedIn
-  checks = ap (λ h. checkedOf (given (run h xs .fate))) (a .state) ∙ ap checkedOf (call-tells p (a .under) xs (a .room))
+  unfolding outcome
+  checks = call-checked p (assembling (s .reader) (s .assembly)) xs a
 
   count : gives s xs .read ≡ call p xs .read
   unfolding outcome closedForm

@@ -1,9 +1,11 @@
 -- PROMISE: a history does what its octets say. For every history its replies are the frames of the engine's replies to the checked
 -- bodies, one to each, in order; the octets that its calls say they read are those of 01, Whole histories; the box at its end is the
 -- engine's over the checked bodies. And for one more call, which may be any: its number, its count and the octets that it writes are
--- those of the octets, so a reply is written by the call that reads its frame's closing flag, and refusal 11 never comes.
+-- those of the octets, so a reply is written by the call that reads its frame's closing flag, and refusal 11 never comes. All of this
+-- from any box that keeps its rules, with a fresh reader, and so from what setup returns.
 use mathlib.Core.Logic.{_≢_}
 use mathlib.Core.Path.{_≡_, refl, sym, ap, _∙_}
+use mathlib.Core.Bool.{true}
 use mathlib.Core.List.{List, [], map}
 use Prim.Native.Nat.{ℕ, _≤_}
 use native.Mathlib.Omega.{arith}
@@ -13,15 +15,19 @@ use Rattle.octets.proofs.LawsTests.{chosen}
 use Rattle.frame.specs.Frame.{frame, stuffed}
 use Rattle.hdlc.specs.Reader.{maxGathered, fresh}
 use Rattle.hdlc.specs.States.{openPiece}
+use Rattle.hdlc.specs.Wire.{checkedIn}
 use Rattle.hdlc.proofs.ClosedForm.{open-holds}
 use Rattle.hdlc.proofs.LawsCalls.{call-number}
 use Rattle.hdlc.proofs.ReaderRules.{fresh-rules, rules-hold}
 use Rattle.device.specs.declared.state.Device.{Device}
-use Rattle.device.proofs.SetupKeepsRules.{setup-keeps}
-use Rattle.engine.specs.Merged.{repliesTo}
+use Rattle.device.specs.Rules.{rules}
+use Rattle.device.specs.Setup.{Setup, deviceFrom}
+use Rattle.device.proofs.SetupKeepsRules.{device-from-keeps}
+use Rattle.engine.specs.Merged.{deviceAfter, repliesTo}
+use Rattle.engine.specs.Carried.{Carried}
 use Rattle.engine.proofs.RepliesInOrder.{one-each}
 use Rattle.serial.specs.Receiving.{minOutput, Result}
-use Rattle.serial.specs.Histories.{Setup, deviceFrom, ReceivingCall, lentFrom, History, start, endOf, gives, replyIn, repliesIn, readIn, readBy, laid, checkedIn, bodies, Report, reported, callMeans, openAfter, deviceIn}
+use Rattle.serial.specs.Histories.{ReceivingCall, lentFrom, History, gives, replyIn, startFrom, endFrom, repliesFrom, readFrom, endOf, repliesIn, readIn, readBy, laid, bodies, Report, reported, callMeans, openAfter, deviceIn, transcript}
 use Rattle.serial.proofs.LawsHistories.{Stands, Step, step, Runs, runs}
 
 pub record Faithful (s : Setup) (h : History) : Type 0 where
@@ -35,11 +41,11 @@ pub record Faithful (s : Setup) (h : History) : Type 0 where
 
 -- ---- the start
 
-starts : (s : Setup) (a : List ℕ) → Stands a [] (start s a)
+starts : (d : Device) (a : List ℕ) → rules d ≡ true → Stands a [] (startFrom d a)
 unfolding openPiece stuffed
-starts s a =
+starts d a keeps =
     record {
-      device = setup-keeps (s .links) (s .vendor) (s .text) (s .address);
+      device = keeps;
       reader = rules-hold fresh fresh-rules;
       size = refl;
       holds = λ room. record { under = a; room = room; state = open-holds fresh a fresh-rules room };
@@ -60,35 +66,63 @@ never a p d c =
     (λ _. chosen (λ (m : Report). m .number ≢ 11) (ltb (length (c .output)) minOutput) (λ _ e. omega arith)
     (λ _ e. omega (arith, call-number (c .input) p)))
 
-module _ (s : Setup) (h : History) where
-  all : Runs (h .assembly) [] (start s (h .assembly)) (h .calls)
-  all = runs (h .assembly) [] (start s (h .assembly)) (h .calls) (starts s (h .assembly))
+-- ---- a history from any box that keeps its rules
+
+module _ (d : Device) (keeps : rules d ≡ true) (h : History) where
+  all : Runs (h .assembly) [] (startFrom d (h .assembly)) (h .calls)
+  all = runs (h .assembly) [] (startFrom d (h .assembly)) (h .calls) (starts d (h .assembly) keeps)
 
   -- one call more
-  after : (c : ReceivingCall) → Step (h .assembly) (openAfter h) (readBy (h .assembly) (openAfter h) c) (endOf s h) c
-  unfolding endOf openAfter laid
-  after c = step (h .assembly) (openAfter h) (endOf s h) c (all .stands)
+  after : (c : ReceivingCall) → Step (h .assembly) (openAfter h) (readBy (h .assembly) (openAfter h) c) (endFrom d h) c
+  unfolding endFrom openAfter laid
+  after c = step (h .assembly) (openAfter h) (endFrom d h) c (all .stands)
 
-  means-more : (c : ReceivingCall) → reported (gives (endOf s h) c) ≡ callMeans (h .assembly) (openAfter h) (deviceIn s h) c
-  unfolding endOf deviceIn bodies laid
-  means-more c = after c .reported ∙ ap (λ d. callMeans (h .assembly) (openAfter h) d c) (all .device)
+  -- what its calls write and read, and the box at its end
+  pub writes-replies : repliesFrom d h ≡ map frame (repliesTo d (bodies h))
+  unfolding repliesFrom bodies laid
+  writes-replies = all .replies
 
-  few-more : (c : ReceivingCall) → length (checkedIn (openAfter h) (readBy (h .assembly) (openAfter h) c)) ≤ 1
+  pub one-reply-each : length (repliesFrom d h) ≡ length (bodies h)
+  one-reply-each = ap length writes-replies ∙ length-map (repliesTo d (bodies h)) frame ∙ one-each d (bodies h)
+
+  pub reads-laid : readFrom d h ≡ laid h
+  unfolding readFrom laid
+  reads-laid = all .read
+
+  pub ends-as-engine : endFrom d h .device ≡ deviceAfter d (bodies h)
+  unfolding endFrom bodies laid
+  ends-as-engine = all .device
+
+  -- so the cable carries it (engine, specs/Carried.antt)
+  pub carried : Carried frame d (transcript d h)
+  carried = record { replies = writes-replies; device = ends-as-engine }
+
+  -- whatever call comes next
+  pub means-more : (c : ReceivingCall) → reported (gives (endFrom d h) c) ≡ callMeans (h .assembly) (openAfter h) (deviceAfter d (bodies h)) c
+  means-more c = after c .reported ∙ ap (λ e. callMeans (h .assembly) (openAfter h) e c) ends-as-engine
+
+  pub few-more : (c : ReceivingCall) → length (checkedIn (openAfter h) (readBy (h .assembly) (openAfter h) c)) ≤ 1
   few-more c =
       let bs = checkedIn (openAfter h) (readBy (h .assembly) (openAfter h) c) in
-      let d = endOf s h .device in
-      let size : length (replyIn (gives (endOf s h) c)) ≡ length bs = ap length (after c .reply) ∙ length-map (repliesTo d bs) frame ∙ one-each d bs in
-      rw (← size) (few-replies (gives (endOf s h) c))
+      let e = endFrom d h .device in
+      let size : length (replyIn (gives (endFrom d h) c)) ≡ length bs = ap length (after c .reply) ∙ length-map (repliesTo e bs) frame ∙ one-each e bs in
+      rw (← size) (few-replies (gives (endFrom d h) c))
 
-  pub faithful : Faithful s h
-  unfolding repliesIn readIn endOf laid bodies deviceIn reported
-  faithful =
-      record {
-        replies = all .replies;
-        one-each = ap length (all .replies) ∙ length-map (repliesTo (deviceFrom s) (bodies h)) frame ∙ one-each (deviceFrom s) (bodies h);
-        read = all .read;
-        device = all .device;
-        more = means-more;
-        at-most-one = few-more;
-        never-11 = λ c e. never (h .assembly) (openAfter h) (deviceIn s h) c (sym (ap (λ m. m .number) (means-more c)) ∙ e);
-      }
+  pub never-refused : (c : ReceivingCall) → gives (endFrom d h) c .number ≢ 11
+  unfolding reported
+  never-refused c e = never (h .assembly) (openAfter h) (deviceAfter d (bodies h)) c (sym (ap (λ m. m .number) (means-more c)) ∙ e)
+
+pub faithful : (s : Setup) (h : History) → Faithful s h
+unfolding endOf repliesIn readIn deviceIn
+faithful s h =
+    let d = deviceFrom s in
+    let keeps = device-from-keeps s in
+    record {
+      replies = writes-replies d keeps h;
+      one-each = one-reply-each d keeps h;
+      read = reads-laid d keeps h;
+      device = ends-as-engine d keeps h;
+      more = means-more d keeps h;
+      at-most-one = few-more d keeps h;
+      never-11 = never-refused d keeps h;
+    }

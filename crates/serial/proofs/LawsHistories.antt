@@ -8,17 +8,16 @@ use borrow.Author.Tests.{ltb-false}
 use lib.Dec.{ltb}
 use lib.ListN.{length, take}
 use Rattle.octets.specs.Runs.{each}
-use Rattle.octets.proofs.LawsRuns.{each-append, emitted-append}
 use Rattle.octets.proofs.LawsTests.{by-test}
 use Rattle.frame.specs.Frame.{frame}
 use Rattle.hdlc.specs.Fate.{given}
 use Rattle.hdlc.specs.Reader.{maxGathered, assembling, Outcome, run}
 use Rattle.hdlc.specs.Rules.{rules as readerRules}
 use Rattle.hdlc.specs.States.{closedForm}
-use Rattle.hdlc.specs.Wire.{fatesOf, finished, ended, grown, unfinished, call, callReads}
+use Rattle.hdlc.specs.Wire.{fatesOf, checkedOf, checkedIn, finished, unfinished, call, callReads}
 use Rattle.hdlc.proofs.ClosedForm.{call-closed, same-room}
-use Rattle.hdlc.proofs.LawsCalls.{After, after-call, call-tells}
-use Rattle.hdlc.proofs.LawsPieces.{unfinished-append}
+use Rattle.hdlc.proofs.LawsCalls.{After, after-call, call-checked}
+use Rattle.hdlc.proofs.LawsPieces.{unfinished-append, checked-append}
 use Rattle.hdlc.proofs.ReaderRules.{rules-told, run-rules}
 use Rattle.device.specs.declared.state.Device.{Device}
 use Rattle.device.specs.Rules.{rules}
@@ -26,19 +25,12 @@ use Rattle.engine.specs.Merged.{deviceAfter, repliesTo}
 use Rattle.engine.proofs.RepliesInOrder.{device-append, replies-append}
 use Rattle.engine.proofs.RulesKept.{bodies-keep}
 use Rattle.serial.specs.Receiving.{minOutput, breaksRules, refused, unrefused, receive}
-use Rattle.serial.specs.Histories.{Lent, own, short, ReceivingCall, State, lentFrom, leftIn, gives, next, replyIn, repliesFrom, readFrom, isRefused, readBy, laidFrom, checkedOf, checkedIn, report, reported, callMeans}
+use Rattle.serial.specs.Histories.{Lent, own, short, ReceivingCall, State, lentFrom, leftIn, gives, next, replyIn, callsWrite, callsRead, isRefused, readBy, laidFrom, report, reported, callMeans}
 use Rattle.serial.proofs.LawsReceiving.{unrefused-device, unrefused-reply, unrefused-octets, unrefused-read, frame-some}
 
 -- ---- octets end to end
 
-pub checked-append : (p xs ys : List ℕ) → checkedIn p (xs ++ ys) ≡ checkedIn p xs ++ checkedIn (unfinished p xs) ys
-unfolding checkedIn checkedOf fatesOf finished unfinished
-checked-append p xs ys =
-    ap (λ ps. checkedOf (fatesOf ps)) (emitted-append ended grown p xs ys)
-    ∙ ap checkedOf (each-append _ (finished p xs) (finished (unfinished p xs) ys))
-    ∙ each-append _ (fatesOf (finished p xs)) (fatesOf (finished (unfinished p xs) ys))
-
--- so the box after them, and the replies to them
+-- the box after them, and the replies to them
 pub device-joined : (d : Device) (p xs ys : List ℕ)
     → deviceAfter d (checkedIn p (xs ++ ys)) ≡ deviceAfter (deviceAfter d (checkedIn p xs)) (checkedIn (unfinished p xs) ys)
 device-joined d p xs ys = ap (deviceAfter d) (checked-append p xs ys) ∙ device-append d (checkedIn p xs) (checkedIn (unfinished p xs) ys)
@@ -133,10 +125,8 @@ module _ (a p : List ℕ) (t : State) (c : ReceivingCall) (s : Stands a p t) whe
     is-closed = ap (λ h. run h (c .input)) (behind .state) ∙ call-closed (c .input) p (behind .under) (behind .room)
 
     found : checkedOf (given (outcome .fate)) ≡ checkedIn p (callReads p (c .input))
-    unfolding outcome checkedIn
-    found =
-        ap (λ h. checkedOf (given (run h (c .input) .fate))) (behind .state)
-        ∙ ap checkedOf (call-tells p (behind .under) (c .input) (behind .room))
+    unfolding outcome
+    found = call-checked p (assembling (t .reader) (t .assembly)) (c .input) behind
 
     device-next : next t c .device ≡ deviceAfter (t .device) (checkedIn p (callReads p (c .input)))
     unfolding next
@@ -195,13 +185,13 @@ module _ (a p : List ℕ) (t : State) (c : ReceivingCall) (s : Stands a p t) whe
 -- ---- all calls
 
 pub record Runs (a p : List ℕ) (t : State) (cs : List ReceivingCall) : Type 0 where
-  pub read : readFrom t cs ≡ laidFrom a p cs
-  pub replies : repliesFrom t cs ≡ map frame (repliesTo (t .device) (checkedIn p (laidFrom a p cs)))
+  pub read : callsRead t cs ≡ laidFrom a p cs
+  pub replies : callsWrite t cs ≡ map frame (repliesTo (t .device) (checkedIn p (laidFrom a p cs)))
   pub device : foldl next t cs .device ≡ deviceAfter (t .device) (checkedIn p (laidFrom a p cs))
   pub stands : Stands a (unfinished p (laidFrom a p cs)) (foldl next t cs)
 
 pub runs : (a p : List ℕ) (t : State) (cs : List ReceivingCall) → Stands a p t → Runs a p t cs
-unfolding readFrom laidFrom repliesFrom checkedIn checkedOf fatesOf finished unfinished repliesTo deviceAfter
+unfolding callsRead laidFrom callsWrite checkedIn checkedOf fatesOf finished unfinished repliesTo deviceAfter
 runs a p t [] s = record { read = refl; replies = refl; device = refl; stands = s }
 runs a p t (c ∷ cs) s =
     let w = readBy a p c in

@@ -14,9 +14,11 @@ use Rattle.octets.proofs.LawsTests.{by-test, both-told}
 use Rattle.frame.specs.Frame.{frame, written, writing}
 use Rattle.frame.proofs.FrameBounds.{frame-bounds}
 use Rattle.hdlc.specs.declared.reader.Reader.{Reader}
-use Rattle.hdlc.specs.Fate.{Fated, given}
+use Rattle.hdlc.specs.Fate.{given}
 use Rattle.hdlc.specs.Reader.{assembling, Outcome}
 use Rattle.hdlc.specs.Rules.{rules as readerRules}
+use Rattle.hdlc.specs.Wire.{checkedOf}
+use Rattle.hdlc.proofs.LawsFates.{checked-given}
 use Rattle.device.specs.State.{maxReply}
 use Rattle.device.specs.declared.state.Device.{Device}
 use Rattle.device.specs.Rules.{rules}
@@ -25,18 +27,13 @@ use Rattle.engine.specs.Merged.{deviceAfter, repliesTo}
 use Rattle.engine.proofs.ReplyBounds.{reply-bounds}
 use Rattle.serial.specs.declared.receiving.Received.{Received}
 use Rattle.serial.specs.Receiving.{Result, resultOf, breaksRules, unrefused, framed}
-use Rattle.serial.specs.Histories.{checkedOf, replyIn}
+use Rattle.serial.specs.Histories.{replyIn}
 
 pub rules-kept : (d : Device) (r : Reader) → breaksRules d r ≡ false → (rules d ≡ true) × (readerRules r ≡ true)
 unfolding breaksRules
 rules-kept d r e = both-told (not-false _ e)
 
 -- ---- a call that was not refused, by the bodies that it checked
-
-checked-given : (f : Fated) → checkedOf (given f) ≡ cond (eqb (f .number) 1) (f .body ∷ []) []
-unfolding checkedOf given
-checked-given f =
-    by-test (eqb (f .number) 0) (λ t. rw (t, ap (λ n. eqb n 1) (eqb-true _ _ t))) (λ t. rw t (append-nil _))
 
 module _ (octets : List ℕ → List ℕ) (d : Device) (o : Outcome) (out : List ℕ) {bs : List (List ℕ)} (e : checkedOf (given (o .fate)) ≡ bs) where
   pub found : bs ≡ cond (eqb (o .fate .number) 1) (o .fate .body ∷ []) []

@@ -1,23 +1,19 @@
 -- PROMISE: links are separate, over whole histories (00, demand 3). Take any settings, good or bad, any two histories from them, and any
 -- link k of 0 to 3. If link k's merged sequence is the same in both, then so are its replies, as bodies and as octets written, in the
--- same order, and at the end its values in every row of the table and its last status.
-use mathlib.Core.Path.{_≡_, refl, sym, ap, _∙_}
-use mathlib.Core.Bool.{cond}
-use mathlib.Core.List.{[], _∷_, map}
+-- same order, and at the end its values in every row of the table and its last status. This is the engine's promise over checked bodies
+-- (engine, proofs/AnyFraming.antt), which the cable carries.
+use mathlib.Core.Path.{_≡_}
+use mathlib.Core.List.{map}
 use Prim.Native.Nat.{ℕ, _<_}
-use lib.Dec.{ltb}
 use Rattle.frame.specs.Frame.{frame}
-use Rattle.property.specs.Row.{rows}
 use Rattle.device.specs.State.{maxLinks}
-use Rattle.device.proofs.SetupKeepsRules.{setup-keeps}
-use Rattle.device.specs.View.{viewOf}
-use Rattle.reply.specs.Value.{valueOf}
-use Rattle.engine.specs.Merged.{picked}
-use Rattle.engine.proofs.Separation.{separation}
-use Rattle.engine.proofs.RepliesInOrder.{picked-replies}
-use Rattle.serial.specs.Histories.{Setup, deviceFrom, History, endOf, bodies, deviceIn}
-use Rattle.serial.specs.Links.{settingsIn, mergedIn, octetsTo, bodiesTo, valuesOn, statusOn}
-use Rattle.serial.proofs.Faithful.{faithful}
+use Rattle.device.specs.Setup.{Setup, deviceFrom}
+use Rattle.device.proofs.SetupKeepsRules.{device-from-keeps}
+use Rattle.engine.specs.Links.{valuesOn, statusOn}
+use Rattle.engine.proofs.AnyFraming.{octets-framed as carried-framed, separate as carried-separate}
+use Rattle.serial.specs.Histories.{History, endOf, repliesIn, transcript}
+use Rattle.serial.specs.Links.{mergedIn, octetsTo, bodiesTo}
+use Rattle.serial.proofs.Faithful.{carried}
 
 pub record Alike (s : Setup) (k : ℕ) (g h : History) : Type 0 where
   pub bodies : bodiesTo s k g ≡ bodiesTo s k h
@@ -27,20 +23,15 @@ pub record Alike (s : Setup) (k : ℕ) (g h : History) : Type 0 where
 
 -- what the calls wrote for link k is what the engine replied to it, framed
 pub octets-framed : (s : Setup) (k : ℕ) (h : History) → octetsTo s k h ≡ map frame (bodiesTo s k h)
-unfolding octetsTo bodiesTo
-octets-framed s k h = ap (picked (settingsIn s) k (bodies h)) (faithful s h .replies) ∙ picked-replies frame k (deviceFrom s) (bodies h)
+unfolding octetsTo bodiesTo repliesIn
+octets-framed s k h =
+    let d = deviceFrom s in
+    carried-framed frame d k (transcript d h) (carried d (device-from-keeps s) h)
 
 pub separate : (s : Setup) (k : ℕ) → k < maxLinks → (g h : History) → mergedIn s k g ≡ mergedIn s k h → Alike s k g h
-unfolding mergedIn bodiesTo valuesOn statusOn deviceIn
+unfolding mergedIn bodiesTo octetsTo repliesIn endOf
 separate s k few g h m =
     let d = deviceFrom s in
-    let keeps = setup-keeps (s .links) (s .vendor) (s .text) (s .address) in
-    let same = separation k few d d (bodies g) (bodies h) keeps keeps refl m in
-    let view : viewOf k (endOf s g .device) ≡ viewOf k (endOf s h .device) =
-    ap (viewOf k) (faithful s g .device) ∙ same .0 ∙ sym (ap (viewOf k) (faithful s h .device)) in
-    record {
-      bodies = same .1;
-      octets = octets-framed s k g ∙ ap (map frame) (same .1) ∙ sym (octets-framed s k h);
-      values = ap (λ v. map (λ r. valueOf v (r .kind)) rows) view;
-      status = ap (λ v. cond (ltb k (v .settings .links)) (v .link .status ∷ []) []) view;
-    }
+    let keeps = device-from-keeps s in
+    let alike = carried-separate frame d k keeps few (transcript d g) (transcript d h) (carried d keeps g) (carried d keeps h) m in
+    record { bodies = alike .bodies; octets = alike .octets; values = alike .values; status = alike .status }

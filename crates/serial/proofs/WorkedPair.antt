@@ -13,16 +13,16 @@ use Rattle.frame.specs.Kind.{isFlag, isEscape, isSkipped}
 use Rattle.frame.specs.Fcs.{fcsBit, fcsBits, fcsOctet, fcsFrom, fcs}
 use Rattle.hdlc.specs.Fate.{given}
 use Rattle.hdlc.specs.Reader.{bodyOf, checkOf, maxGathered}
-use Rattle.hdlc.specs.Wire.{kept, meant, pends, gathered, cutEscape, contentFate, pieceFate, ended, grown, finished, unfinished, fatesOf, pieceFateAt, call, callReads}
+use Rattle.hdlc.specs.Wire.{kept, meant, pends, gathered, cutEscape, contentFate, pieceFate, ended, grown, finished, unfinished, fatesOf, checkedOf, checkedIn, pieceFateAt, call, callReads}
 use Rattle.device.specs.State.{fresh, addressSize}
 use Rattle.device.specs.Text.{goodText, isText}
-use Rattle.device.specs.Setup.{isGoodSetup, setupFor}
+use Rattle.device.specs.Setup.{isGoodSetup, setupFor, Setup}
 use Rattle.device.specs.declared.view.Effect.the-variants.{Reset, Powered}
 use Rattle.command.specs.Effects.{isReset, isPower, effectOf}
 use Rattle.engine.specs.Engine.{linkOf, isSetUp}
 use Rattle.engine.specs.Merged.{Item, whole, only, effectItem, itemOf, merged}
 use Rattle.serial.specs.Receiving.{minOutput}
-use Rattle.serial.specs.Histories.{Setup, own, short, ReceivingCall, History, isRefused, readBy, laidFrom, laid, checkedOf, checkedIn, bodies}
+use Rattle.serial.specs.Histories.{own, short, ReceivingCall, History, isRefused, readBy, laidFrom, laid, bodies}
 use Rattle.serial.specs.Links.{mergedIn}
 use Rattle.serial.proofs.Separate.{Alike, separate}
 

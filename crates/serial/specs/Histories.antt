@@ -7,26 +7,15 @@ use lib.ListN.{length, take}
 use Rattle.octets.specs.Runs.{each, emitted}
 use Rattle.frame.specs.Frame.{frame}
 use Rattle.hdlc.specs.declared.reader.Reader.{Reader}
-use Rattle.hdlc.specs.Fate.{Fated}
 use Rattle.hdlc.specs.Reader.{maxGathered, fresh}
-use Rattle.hdlc.specs.Wire.{fatesOf, finished, unfinished, call, callReads}
+use Rattle.hdlc.specs.Wire.{checkedIn, unfinished, call, callReads}
 use Rattle.device.specs.declared.state.Device.{Device}
-use Rattle.device.specs.Setup.{setupFor}
+use Rattle.device.specs.Setup.{Setup, deviceFrom}
 use Rattle.engine.specs.Merged.{deviceAfter, repliesTo}
+use Rattle.engine.specs.Carried.{Transcript}
 use Rattle.serial.specs.Receiving.{minOutput, Result, receive}
 
 -- ---- histories
-
--- what setup is given, good or bad
-pub record Setup : Type 0 where
-  pub links : ℕ
-  pub vendor : ℕ
-  pub text : List ℕ
-  pub address : List ℕ
-
--- "what setup returns for the same settings, 14 included"
-abbrev pub deviceFrom : Setup → Device
-deviceFrom s = setupFor (s .links) (s .vendor) (s .text) (s .address) .device
 
 -- the assembly buffer that a call is lent: the history's own, or "instead .. one under 1,302"
 pub data Lent : Type 0 where
@@ -73,13 +62,6 @@ next t c =
       assembly = leftIn (c .lent) (t .assembly) (gives t c .assembly);
     }
 
--- "Both start from a fresh reader and what setup returns"
-abbrev pub start : Setup → List ℕ → State
-start s a = record { device = deviceFrom s; reader = fresh; assembly = a }
-
-unfoldable pub endOf : Setup → History → State
-endOf s h = foldl next (start s (h .assembly)) (h .calls)
-
 -- ---- what its calls returned
 
 -- what a call wrote, if it wrote anything
@@ -87,18 +69,40 @@ unfoldable pub replyIn : Result → List (List ℕ)
 replyIn r = cond (eqb (r .written) 0) [] (take (r .written) (r .output) ∷ [])
 
 -- "octets written", a list for each reply
-unfoldable pub repliesFrom : State → List ReceivingCall → List (List ℕ)
-repliesFrom t cs = emitted (λ u c. replyIn (gives u c)) next t cs
-
-unfoldable pub repliesIn : Setup → History → List (List ℕ)
-repliesIn s h = repliesFrom (start s (h .assembly)) (h .calls)
+unfoldable pub callsWrite : State → List ReceivingCall → List (List ℕ)
+callsWrite t cs = emitted (λ u c. replyIn (gives u c)) next t cs
 
 -- the octets that the calls read, by the counts that they returned
-unfoldable pub readFrom : State → List ReceivingCall → List ℕ
-readFrom t cs = emitted (λ u c. take (gives u c .read) (c .input)) next t cs
+unfoldable pub callsRead : State → List ReceivingCall → List ℕ
+callsRead t cs = emitted (λ u c. take (gives u c .read) (c .input)) next t cs
+
+-- ---- a history from a box, "with the reader fresh" (02, T-10)
+
+abbrev pub startFrom : Device → List ℕ → State
+startFrom d a = record { device = d; reader = fresh; assembly = a }
+
+unfoldable pub endFrom : Device → History → State
+endFrom d h = foldl next (startFrom d (h .assembly)) (h .calls)
+
+unfoldable pub repliesFrom : Device → History → List (List ℕ)
+repliesFrom d h = callsWrite (startFrom d (h .assembly)) (h .calls)
+
+unfoldable pub readFrom : Device → History → List ℕ
+readFrom d h = callsRead (startFrom d (h .assembly)) (h .calls)
+
+-- ---- "Both start from a fresh reader and what setup returns"
+
+abbrev pub start : Setup → List ℕ → State
+start s a = startFrom (deviceFrom s) a
+
+unfoldable pub endOf : Setup → History → State
+endOf s h = endFrom (deviceFrom s) h
+
+unfoldable pub repliesIn : Setup → History → List (List ℕ)
+repliesIn s h = repliesFrom (deviceFrom s) h
 
 unfoldable pub readIn : Setup → History → List ℕ
-readIn s h = readFrom (start s (h .assembly)) (h .calls)
+readIn s h = readFrom (deviceFrom s) h
 
 -- ---- the same by the octets
 
@@ -117,15 +121,7 @@ laidFrom a p cs = emitted (readBy a) (λ q c. unfinished q (readBy a q c)) p cs
 unfoldable pub laid : History → List ℕ
 laid h = laidFrom (h .assembly) [] (h .calls)
 
--- "A checked frame is one with fate 1"; the bodies of those among pieces with fates
-unfoldable pub checkedOf : List Fated → List (List ℕ)
-checkedOf vs = each (λ v. cond (eqb (v .number) 1) (v .body ∷ []) []) vs
-
--- the checked bodies that octets finish after an open piece p: "Cut this at the flags"
-unfoldable pub checkedIn : List ℕ → List ℕ → List (List ℕ)
-checkedIn p xs = checkedOf (fatesOf (finished p xs))
-
--- the checked bodies of a history, in order
+-- its checked bodies, in order: "Cut this at the flags"
 unfoldable pub bodies : History → List (List ℕ)
 bodies h = checkedIn [] (laid h)
 
@@ -157,3 +153,8 @@ openAfter h = unfinished [] (laid h)
 
 unfoldable pub deviceIn : Setup → History → Device
 deviceIn s h = deviceAfter (deviceFrom s) (bodies h)
+
+-- ---- what came of a history from the box d, for the engine's promise over checked bodies
+
+abbrev pub transcript : Device → History → Transcript
+transcript d h = record { bodies = bodies h; written = repliesFrom d h; device = endFrom d h .device }

@@ -1,15 +1,11 @@
--- What one link has of a history (01, Whole histories).
-use mathlib.Core.Bool.{cond}
-use mathlib.Core.List.{List, [], _∷_, map}
+-- What one link has of a history of receiving calls (01, Whole histories).
+use mathlib.Core.List.{List}
 use Prim.Native.Nat.{ℕ}
-use lib.Dec.{ltb}
-use Rattle.property.specs.Row.{rows}
 use Rattle.device.specs.declared.state.Settings.{Settings}
-use Rattle.device.specs.declared.state.Device.{Device}
-use Rattle.device.specs.View.{viewOf}
-use Rattle.reply.specs.Value.{valueOf}
-use Rattle.engine.specs.Merged.{Item, merged, repliesOn, picked}
-use Rattle.serial.specs.Histories.{Setup, deviceFrom, History, repliesIn, bodies}
+use Rattle.device.specs.Setup.{Setup, deviceFrom}
+use Rattle.engine.specs.Merged.{Item, merged}
+use Rattle.engine.specs.Links.{repliesOn, picked}
+use Rattle.serial.specs.Histories.{History, repliesIn, bodies}
 
 -- what setup made of its settings
 abbrev pub settingsIn : Setup → Settings
@@ -25,11 +21,3 @@ octetsTo s k h = picked (settingsIn s) k (bodies h) (repliesIn s h)
 
 unfoldable pub bodiesTo : Setup → ℕ → History → List (List ℕ)
 bodiesTo s k h = repliesOn k (deviceFrom s) (bodies h)
-
--- link k's values, "those held for it in every row of the table, 7 and setup's included"
-unfoldable pub valuesOn : ℕ → Device → List (List ℕ)
-valuesOn k d = map (λ r. valueOf (viewOf k d) (r .kind)) rows
-
--- its last status; "A link not set up has no last status to compare"
-unfoldable pub statusOn : ℕ → Device → List ℕ
-statusOn k d = cond (ltb k (d .settings .links)) (viewOf k d .link .status ∷ []) []
