@@ -1,22 +1,25 @@
 -- PROMISE: what a checked frame is. By the octets alone, a piece has fate 1 exactly when no escape is cut in it, the octets that it stands
 -- for are a body and that body's check, and the body has 2 to 1,300 octets and the top two header bits 10. So a call gives fate 1 for such
--- bodies only.
+-- bodies only. Octets in two parts have the checked bodies of the first, and then those of the second after the piece that the first leaves
+-- open.
 use mathlib.Core.Logic.{⊎-elim}
 use mathlib.Core.Path.{_≡_, sym, ap, subst, _∙_}
-use mathlib.Core.List.{List}
+use mathlib.Core.List.{List, _++_}
 use Prim.Native.Nat.{ℕ, _-_, _≤_}
 use native.Mathlib.Omega.{arith}
 use borrow.Author.Tests.{le-ltb, eq-eqb, ne-eqb}
 use lib.ListN.{length, getD, take, length-take}
 use Rattle.octets.specs.Body.{SpinelBody}
+use Rattle.octets.proofs.LawsRuns.{each-append}
 use Rattle.hdlc.specs.declared.reader.Fate.the-variants.{Checked}
 use Rattle.hdlc.specs.declared.reader.Reader.{Reader}
 use Rattle.hdlc.specs.Fate.{checked}
 use Rattle.hdlc.specs.Reader.{maxGathered, assembling, outcome, run}
 use Rattle.hdlc.specs.Rules.{Rules}
-use Rattle.hdlc.specs.Wire.{gathered, contentFate, pieceFate, CheckedPiece, call}
+use Rattle.hdlc.specs.Wire.{gathered, contentFate, pieceFate, CheckedPiece, finished, unfinished, fatesOf, checkedOf, checkedIn, call}
 use Rattle.hdlc.specs.States.{openPiece, closedForm}
 use Rattle.hdlc.proofs.LawsFates.{header-gathered, body-size, by-piece}
+use Rattle.hdlc.proofs.LawsPieces.{fates-append}
 use Rattle.hdlc.proofs.LawsCalls.{call-fate}
 use Rattle.hdlc.proofs.ClosedForm.{closed-form, same-room}
 
@@ -60,3 +63,10 @@ checked-count r a xs {n} {b = b} keeps room e =
     let body = subst SpinelBody (ap (λ o. o .fate .body) (sym e)) (checked-body r a xs keeps room (ap (λ o. o .fate .number) (sym e))) in
     let size = ap (λ o. length (o .state .assembly)) e ∙ same-room r a xs keeps room in
     (body, omega (arith, length-take n b))
+
+-- ---- octets in two parts
+
+pub checked-append : (p xs ys : List ℕ) → checkedIn p (xs ++ ys) ≡ checkedIn p xs ++ checkedIn (unfinished p xs) ys
+unfolding checkedIn checkedOf
+checked-append p xs ys =
+    ap checkedOf (fates-append p xs ys) ∙ each-append _ (fatesOf (finished p xs)) (fatesOf (finished (unfinished p xs) ys))

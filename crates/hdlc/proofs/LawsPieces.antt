@@ -1,4 +1,4 @@
--- What octets add to a piece, and to the pieces of the wire.
+-- What octets add to a piece, and to the pieces before them.
 use mathlib.Core.Bool.{Bool, true, false}
 use mathlib.Core.Path.{_≡_, ap, _∙_}
 use mathlib.Core.List.{List, [], _∷_, _++_, append-nil, foldl, foldl-append}
@@ -6,7 +6,7 @@ use Prim.Native.Nat.{ℕ}
 use Rattle.octets.specs.Runs.{emitted}
 use Rattle.octets.proofs.LawsRuns.{each-append, emitted-append}
 use Rattle.frame.specs.Kind.{isSkipped}
-use Rattle.hdlc.specs.Wire.{kept, meant, pends, gathered, cutEscape, ended, grown, finished, unfinished, fatesOf, checkedOf, checkedIn}
+use Rattle.hdlc.specs.Wire.{kept, meant, pends, gathered, cutEscape, ended, grown, finished, unfinished, fatesOf}
 
 kept-append : (p q : List ℕ) → kept (p ++ q) ≡ kept p ++ kept q
 unfolding kept
@@ -25,15 +25,10 @@ pub unfinished-append : (p xs ys : List ℕ) → unfinished p (xs ++ ys) ≡ unf
 unfolding unfinished
 unfinished-append p xs ys = foldl-append grown p xs ys
 
--- the fates of the pieces that both finish, and the checked bodies among them
+-- the fates of the pieces that both finish
 pub fates-append : (p xs ys : List ℕ) → fatesOf (finished p (xs ++ ys)) ≡ fatesOf (finished p xs) ++ fatesOf (finished (unfinished p xs) ys)
 unfolding fatesOf finished unfinished
 fates-append p xs ys = ap fatesOf (emitted-append ended grown p xs ys) ∙ each-append _ (finished p xs) (finished (unfinished p xs) ys)
-
-pub checked-append : (p xs ys : List ℕ) → checkedIn p (xs ++ ys) ≡ checkedIn p xs ++ checkedIn (unfinished p xs) ys
-unfolding checkedIn checkedOf
-checked-append p xs ys =
-    ap checkedOf (fates-append p xs ys) ∙ each-append _ (fatesOf (finished p xs)) (fatesOf (finished (unfinished p xs) ys))
 
 -- a piece q that stands for the octets of p and then those of xs, and ends in an escape or not
 pub record Adds (p q xs : List ℕ) (e : Bool) : Type 0 where

@@ -21,7 +21,8 @@ use Rattle.hdlc.specs.Wire.{kept, gathered, cutEscape, pieceFate, ended,
 use Rattle.hdlc.specs.States.{frameRead}
 use Rattle.hdlc.specs.Histories.{callsTell, callsLeave, offers, offered}
 use Rattle.hdlc.proofs.LawsFates.{headed-decided}
-use Rattle.hdlc.proofs.LawsPieces.{unfinished-append, checked-append}
+use Rattle.hdlc.proofs.LawsPieces.{unfinished-append}
+use Rattle.hdlc.proofs.CheckedBodies.{checked-append}
 use Rattle.hdlc.proofs.RoundTrip.{round-trip, frame-then}
 
 -- what 7E and a body's frame give

@@ -24,11 +24,11 @@ use Rattle.hdlc.specs.Reader.{bodyOf, checkOf, frameFate, headed, maxGat
 use Rattle.hdlc.specs.Wire.{kept, gathered, cutEscape, pieceFate, grown, finished, unfinished, fatesOf, checkedOf, checkedIn, pieceFateAt, call, callReads}
 use Rattle.hdlc.specs.States.{readerAfter, over, holding, closedForm, frameRead}
 use Rattle.hdlc.proofs.LawsFates.{headed-checked, headed-decided, content-fate}
-use Rattle.hdlc.proofs.LawsPieces.{checked-append}
 use Rattle.hdlc.proofs.LawsStuffing.{stuffed-gives, stuffed-passed}
 use Rattle.hdlc.proofs.LawsStates.{over-few}
 use Rattle.hdlc.proofs.ClosedForm.{call-closed}
 use Rattle.hdlc.proofs.LawsCalls.{reads}
+use Rattle.hdlc.proofs.CheckedBodies.{checked-append}
 
 -- the first flag ends nothing
 first-flag : (xs : List ℕ) → call [] (0x7e ∷ xs) ≡ later 1 (call [] xs)

@@ -108,9 +108,9 @@ module _ (d : Device) (keeps : rules d ≡ true) (h : History) where
       let size : length (replyIn (gives (endFrom d h) c)) ≡ length bs = ap length (after c .reply) ∙ length-map (repliesTo e bs) frame ∙ one-each e bs in
       rw (← size) (few-replies (gives (endFrom d h) c))
 
-  pub never-refused : (c : ReceivingCall) → gives (endFrom d h) c .number ≢ 11
+  pub never-11-more : (c : ReceivingCall) → gives (endFrom d h) c .number ≢ 11
   unfolding reported
-  never-refused c e = never (h .assembly) (openAfter h) (deviceAfter d (bodies h)) c (sym (ap (λ m. m .number) (means-more c)) ∙ e)
+  never-11-more c e = never (h .assembly) (openAfter h) (deviceAfter d (bodies h)) c (sym (ap (λ m. m .number) (means-more c)) ∙ e)
 
 pub faithful : (s : Setup) (h : History) → Faithful s h
 unfolding endOf repliesIn readIn deviceIn
@@ -124,5 +124,5 @@ faithful s h =
       device = ends-as-engine d keeps h;
       more = means-more d keeps h;
       at-most-one = few-more d keeps h;
-      never-11 = never-refused d keeps h;
+      never-11 = never-11-more d keeps h;
     }

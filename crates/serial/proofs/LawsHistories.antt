@@ -17,7 +17,8 @@ use Rattle.hdlc.specs.States.{closedForm}
 use Rattle.hdlc.specs.Wire.{fatesOf, checkedOf, checkedIn, finished, unfinished, call, callReads}
 use Rattle.hdlc.proofs.ClosedForm.{call-closed, same-room}
 use Rattle.hdlc.proofs.LawsCalls.{After, after-call, call-checked}
-use Rattle.hdlc.proofs.LawsPieces.{unfinished-append, checked-append}
+use Rattle.hdlc.proofs.LawsPieces.{unfinished-append}
+use Rattle.hdlc.proofs.CheckedBodies.{checked-append}
 use Rattle.hdlc.proofs.ReaderRules.{rules-told, run-rules}
 use Rattle.device.specs.declared.state.Device.{Device}
 use Rattle.device.specs.Rules.{rules}
