@@ -27,12 +27,12 @@ module _ (frame : List ℕ → List ℕ) (d : Device) (k : ℕ) where
   pub separate : rules d ≡ true → k < maxLinks → (t u : Transcript) → Carried frame d t → Carried frame d u
       → merged (d .settings) k (t .bodies) ≡ merged (d .settings) k (u .bodies) → AlikeOn k d t u
   unfolding valuesOn statusOn
-  separate keeps few t u c e m =
+  separate keeps few t u g h m =
       let same = separation k few d d (t .bodies) (u .bodies) keeps keeps refl m in
-      let view : viewOf k (t .device) ≡ viewOf k (u .device) = ap (viewOf k) (c .device) ∙ same .0 ∙ sym (ap (viewOf k) (e .device)) in
+      let view : viewOf k (t .device) ≡ viewOf k (u .device) = ap (viewOf k) (g .device) ∙ same .0 ∙ sym (ap (viewOf k) (h .device)) in
       record {
         bodies = same .1;
-        octets = octets-framed t c ∙ ap (map frame) (same .1) ∙ sym (octets-framed u e);
+        octets = octets-framed t g ∙ ap (map frame) (same .1) ∙ sym (octets-framed u h);
         values = ap (λ v. map (λ r. valueOf v (r .kind)) rows) view;
         status = ap (λ v. cond (ltb k (v .settings .links)) (v .link .status ∷ []) []) view;
       }
