@@ -1,8 +1,9 @@
 -- PROMISE: the premise of `separate` can be met. Two histories of link 1: one with noise, cuts in a frame and in an escape, both refusals,
 -- joined frames and settings of link 0, the other clean. Their octets and bodies differ, and link 1's merged sequence is the same six
--- items, by computation.
-use mathlib.Core.Path.{_≡_, refl, sym, _∙_}
-use mathlib.Core.List.{List, [], _∷_}
+-- items, by computation. So link 1's replies, values and last status are the same; they are those that were worked out from 01's text
+-- (engine, proofs/MarkedBodies.antt).
+use mathlib.Core.Path.{_≡_, refl, sym, ap, _∙_}
+use mathlib.Core.List.{List, [], _∷_, map}
 use Prim.Native.Nat.{ℕ}
 use native.Mathlib.Omega.{arith}
 use lib.ListN.{length, replicate}
@@ -10,21 +11,26 @@ use Rattle.octets.specs.Finding.{before}
 use Rattle.octets.specs.LittleEndian.{le, leAt}
 use Rattle.octets.specs.Padding.{pad}
 use Rattle.frame.specs.Kind.{isFlag, isEscape, isSkipped}
+use Rattle.frame.specs.Frame.{frame}
 use Rattle.frame.specs.Fcs.{fcsBit, fcsBits, fcsOctet, fcsFrom, fcs}
 use Rattle.hdlc.specs.Fate.{given}
 use Rattle.hdlc.specs.Reader.{bodyOf, checkOf, maxGathered}
 use Rattle.hdlc.specs.Wire.{kept, meant, pends, gathered, cutEscape, contentFate, pieceFate, ended, grown, finished, unfinished, fatesOf, checkedOf, checkedIn, pieceFateAt, call, callReads}
 use Rattle.device.specs.State.{fresh, addressSize}
 use Rattle.device.specs.Text.{goodText, isText}
-use Rattle.device.specs.Setup.{isGoodSetup, setupFor, Setup}
+use Rattle.device.specs.Setup.{isGoodSetup, setupFor, Setup, deviceFrom}
 use Rattle.device.specs.declared.view.Effect.the-variants.{Reset, Powered}
 use Rattle.command.specs.Effects.{isReset, isPower, effectOf}
 use Rattle.engine.specs.Engine.{linkOf, isSetUp}
-use Rattle.engine.specs.Merged.{Item, whole, only, effectItem, itemOf, merged}
+use Rattle.engine.specs.Merged.{deviceAfter, Item, whole, only, effectItem, itemOf, merged}
+use Rattle.engine.specs.Links.{repliesOn, valuesOn, statusOn}
+use Rattle.engine.specs.Marked.{freshBox}
+use Rattle.engine.proofs.MarkedBodies.{workedBodies, workedReplies, workedValues, worked-link}
 use Rattle.serial.specs.Receiving.{minOutput}
-use Rattle.serial.specs.Histories.{own, short, ReceivingCall, History, isRefused, readBy, laidFrom, laid, bodies}
-use Rattle.serial.specs.Links.{mergedIn}
-use Rattle.serial.proofs.Separate.{Alike, separate}
+use Rattle.serial.specs.Histories.{own, short, ReceivingCall, History, endOf, isRefused, readBy, laidFrom, laid, bodies, deviceIn}
+use Rattle.serial.specs.Links.{mergedIn, octetsTo, bodiesTo}
+use Rattle.serial.proofs.Faithful.{faithful}
+use Rattle.serial.proofs.Separate.{Alike, octets-framed, separate}
 
 -- a box of two links
 abbrev pub two-links : Setup
@@ -89,7 +95,7 @@ unfolding before le leAt pad isFlag isEscape isSkipped fcsBit fcsBits fcsOctet f
     isRefused readBy laidFrom laid checkedOf checkedIn bodies mergedIn
 both-merged = (refl, refl)
 
-pub other-bodies : (length (bodies noisy) ≡ 7) × (length (bodies clean) ≡ 6)
+pub other-bodies : (length (bodies noisy) ≡ 7) × (bodies clean ≡ workedBodies)
 unfolding le leAt isFlag isEscape isSkipped fcsBit fcsBits fcsOctet fcsFrom fcs bodyOf checkOf given
     kept meant pends gathered cutEscape contentFate pieceFate ended grown finished unfinished fatesOf pieceFateAt call callReads
     isRefused readBy laidFrom laid checkedOf checkedIn bodies
@@ -97,3 +103,17 @@ other-bodies = (refl, refl)
 
 pub alike : Alike two-links 1 noisy clean
 alike = separate two-links 1 (omega arith) noisy clean (both-merged .0 ∙ sym (both-merged .1))
+
+-- ---- so link 1 has of the noisy history what was worked out for the bodies of the clean one
+
+pub noisy-replies : (bodiesTo two-links 1 noisy ≡ workedReplies) × (octetsTo two-links 1 noisy ≡ map frame workedReplies)
+unfolding bodiesTo freshBox
+noisy-replies =
+    let replied = alike .bodies ∙ ap (repliesOn 1 (deviceFrom two-links)) (other-bodies .1) ∙ worked-link .0 in
+    (replied, octets-framed two-links 1 noisy ∙ ap (map frame) replied)
+
+pub noisy-values : let d = endOf two-links noisy .device in (valuesOn 1 d ≡ workedValues) × (statusOn 1 d ≡ 3 ∷ [])
+unfolding deviceIn freshBox
+noisy-values =
+    let end = faithful two-links clean .device ∙ ap (deviceAfter (deviceFrom two-links)) (other-bodies .1) in
+    (alike .values ∙ ap (valuesOn 1) end ∙ worked-link .1, alike .status ∙ ap (statusOn 1) end ∙ worked-link .2)
