@@ -15,24 +15,25 @@ use Rattle.device.specs.View.{viewOf}
 use Rattle.reply.specs.Value.{valueOf}
 use Rattle.engine.specs.Merged.{merged}
 use Rattle.engine.specs.Carried.{Transcript, Carried}
-use Rattle.engine.specs.Links.{repliesOn, picked, valuesOn, statusOn, AlikeOn}
+use Rattle.engine.specs.Links.{repliesOn, picked, octetsOn, valuesOn, statusOn, AlikeOn}
 use Rattle.engine.proofs.Separation.{separation}
 use Rattle.engine.proofs.RepliesInOrder.{picked-replies}
 
-module _ (frame : List ℕ → List ℕ) (d : Device) (k : ℕ) where
-  -- what was written for link k is what the engine replied to it, framed
-  pub octets-framed : (t : Transcript) → Carried frame d t → picked (d .settings) k (t .bodies) (t .written) ≡ map frame (repliesOn k d (t .bodies))
-  octets-framed t c = ap (picked (d .settings) k (t .bodies)) (c .replies) ∙ picked-replies frame k d (t .bodies)
+-- what was written for link k is what the engine replied to it, framed
+pub octets-framed : {frame : List ℕ → List ℕ} {d : Device} {t : Transcript} → Carried frame d t
+    → (k : ℕ) → octetsOn k d t ≡ map frame (repliesOn k d (t .bodies))
+unfolding octetsOn
+octets-framed {frame} {d} {t} g k = ap (picked (d .settings) k (t .bodies)) (g .written) ∙ picked-replies frame k d (t .bodies)
 
-  pub separate : rules d ≡ true → k < maxLinks → (t u : Transcript) → Carried frame d t → Carried frame d u
-      → merged (d .settings) k (t .bodies) ≡ merged (d .settings) k (u .bodies) → AlikeOn k d t u
-  unfolding valuesOn statusOn
-  separate keeps few t u g h m =
-      let same = separation k few d d (t .bodies) (u .bodies) keeps keeps refl m in
-      let view : viewOf k (t .device) ≡ viewOf k (u .device) = ap (viewOf k) (g .device) ∙ same .0 ∙ sym (ap (viewOf k) (h .device)) in
-      record {
-        bodies = same .1;
-        octets = octets-framed t g ∙ ap (map frame) (same .1) ∙ sym (octets-framed u h);
-        values = ap (λ v. map (λ r. valueOf v (r .kind)) rows) view;
-        status = ap (λ v. cond (ltb k (v .settings .links)) (v .link .status ∷ []) []) view;
-      }
+pub separate : {frame : List ℕ → List ℕ} {d : Device} {t u : Transcript} → Carried frame d t → Carried frame d u
+    → rules d ≡ true → (k : ℕ) → k < maxLinks → merged (d .settings) k (t .bodies) ≡ merged (d .settings) k (u .bodies) → AlikeOn k d t u
+unfolding valuesOn statusOn
+separate {frame} {d} {t} {u} g h keeps k few m =
+    let same = separation k few d d (t .bodies) (u .bodies) keeps keeps refl m in
+    let view : viewOf k (t .device) ≡ viewOf k (u .device) = ap (viewOf k) (g .device) ∙ same .0 ∙ sym (ap (viewOf k) (h .device)) in
+    record {
+      bodies = same .1;
+      octets = octets-framed g k ∙ ap (map frame) (same .1) ∙ sym (octets-framed h k);
+      values = ap (λ v. map (λ r. valueOf v (r .kind)) rows) view;
+      status = ap (λ v. cond (ltb k (v .settings .links)) (v .link .status ∷ []) []) view;
+    }

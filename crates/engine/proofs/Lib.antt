@@ -2,6 +2,7 @@ pub mod LawsSteps
 pub mod RulesKept
 pub mod Separation
 pub mod RepliesInOrder
+pub mod LawsCarried
 pub mod AnyFraming
 pub mod ReplyBounds
 pub mod ReplyHeader

@@ -1,6 +1,6 @@
 -- PROMISE: bodies one after the other get one reply each, in order; a link's are those at the places of its bodies.
-use mathlib.Core.Path.{_≡_, refl, ap}
-use mathlib.Core.List.{List, [], _∷_, _++_, map, foldl-append}
+use mathlib.Core.Path.{_≡_, refl, ap, _∙_}
+use mathlib.Core.List.{List, [], _∷_, _++_, map, map-append, foldl-append}
 use Prim.Native.Nat.{ℕ, suc}
 use lib.ListN.{length}
 use Rattle.octets.proofs.LawsRuns.{emitted-append}
@@ -18,12 +18,16 @@ pub replies-append : (d : Device) (bs cs : List (List ℕ)) → repliesTo d (bs 
 unfolding repliesTo deviceAfter
 replies-append d bs cs = emitted-append _ deviceStep d bs cs
 
+-- the same of what becomes of each reply, as its frame
+pub mapped-append : {A : Type 0} (f : List ℕ → A) (d : Device) (bs cs : List (List ℕ))
+    → map f (repliesTo d (bs ++ cs)) ≡ map f (repliesTo d bs) ++ map f (repliesTo (deviceAfter d bs) cs)
+mapped-append f d bs cs = ap (map f) (replies-append d bs cs) ∙ map-append f (repliesTo d bs) (repliesTo (deviceAfter d bs) cs)
+
 pub one-each : (d : Device) (bs : List (List ℕ)) → length (repliesTo d bs) ≡ length bs
 unfolding repliesTo
 one-each d [] = refl
 one-each d (b ∷ bs) = ap suc (one-each (deviceStep d b) bs)
 
--- f is what becomes of a reply, as its frame
 pub picked-replies : {A : Type 0} (f : List ℕ → A) (k : ℕ) (d : Device) (bs : List (List ℕ))
     → picked (d .settings) k bs (map f (repliesTo d bs)) ≡ map f (repliesOn k d bs)
 unfolding picked repliesTo repliesOn

@@ -13,5 +13,5 @@ pub record Transcript : Type 0 where
 
 -- what a framing has to show of a history from the box d, with `frame` for how it writes a body
 pub record Carried (frame : List ℕ → List ℕ) (d : Device) (t : Transcript) : Type 0 where
-  pub replies : t .written ≡ map frame (repliesTo d (t .bodies))
+  pub written : t .written ≡ map frame (repliesTo d (t .bodies))
   pub device : t .device ≡ deviceAfter d (t .bodies)

@@ -25,11 +25,15 @@ isAnswered s k b = eqb (linkOf b) k && not (isSetUp s b && isReset b)
 unfoldable pub repliesOn : ℕ → Device → List (List ℕ) → List (List ℕ)
 repliesOn k d bs = emitted (λ e b. cond (isAnswered (e .settings) k b) (engine e b .reply ∷ []) []) deviceStep d bs
 
--- as what was written: a reply belongs to the body at its place; of replies to bodies, one to each, those to link k's bodies but resets
+-- as the octets that were written: a reply belongs to the body at its place; of what was written for bodies, once for each, what is for
+-- link k's but resets
 unfoldable pub picked : {A : Type 0} → Settings → ℕ → List (List ℕ) → List A → List A
 picked s k [] rs = []
 picked s k (b ∷ bs) [] = []
 picked s k (b ∷ bs) (r ∷ rs) = cond (isAnswered s k b) (r ∷ []) [] ++ picked s k bs rs
+
+unfoldable pub octetsOn : ℕ → Device → Transcript → List (List ℕ)
+octetsOn k d t = picked (d .settings) k (t .bodies) (t .written)
 
 -- ---- what is held for it
 
@@ -45,6 +49,6 @@ statusOn k d = cond (ltb k (d .settings .links)) (viewOf k d .link .status ∷ [
 
 pub record AlikeOn (k : ℕ) (d : Device) (t u : Transcript) : Type 0 where
   pub bodies : repliesOn k d (t .bodies) ≡ repliesOn k d (u .bodies)
-  pub octets : picked (d .settings) k (t .bodies) (t .written) ≡ picked (d .settings) k (u .bodies) (u .written)
+  pub octets : octetsOn k d t ≡ octetsOn k d u
   pub values : valuesOn k (t .device) ≡ valuesOn k (u .device)
   pub status : statusOn k (t .device) ≡ statusOn k (u .device)

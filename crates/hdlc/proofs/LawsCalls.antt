@@ -10,13 +10,15 @@ use lib.ListN.{length}
 use Rattle.octets.proofs.LawsRuns.{each-append}
 use Rattle.octets.proofs.LawsTests.{by-test, impossible}
 use Rattle.frame.specs.Kind.{isFlag}
+use Rattle.frame.specs.Frame.{stuffed}
 use Rattle.hdlc.specs.Fate.{unchecked, decided, given}
 use Rattle.hdlc.specs.Reader.{maxGathered, fresh, Assembling, assembling, run}
 use Rattle.hdlc.specs.Wire.{kept, gathered, cutEscape, pieceFate, ended, grown, finished, unfinished, fatesOf, checkedOf, checkedIn, Call, pieceFateAt, call, callReads}
-use Rattle.hdlc.specs.States.{readerAfter, over, holding, closedForm}
+use Rattle.hdlc.specs.States.{readerAfter, over, holding, openPiece, closedForm}
 use Rattle.hdlc.proofs.LawsFates.{by-piece}
 use Rattle.hdlc.proofs.LawsStates.{over-length, decides-flag}
-use Rattle.hdlc.proofs.ClosedForm.{call-closed}
+use Rattle.hdlc.proofs.ClosedForm.{call-closed, open-holds}
+use Rattle.hdlc.proofs.ReaderRules.{fresh-rules}
 
 -- ---- the octets that a call read
 
@@ -71,6 +73,11 @@ pub record After (p : List ℕ) (h : Assembling) : Type 0 where
   pub under : List ℕ
   pub room : maxGathered ≤ length under
   pub state : h ≡ holding p under
+
+-- a fresh reader is one after nothing
+pub fresh-after : (a : List ℕ) → maxGathered ≤ length a → After [] (assembling fresh a)
+unfolding openPiece stuffed
+fresh-after a room = record { under = a; room = room; state = open-holds fresh a fresh-rules room }
 
 decided-state : (c : Call) (a : List ℕ) → decided (c .fate) ≡ true → closedForm c a .state ≡ holding [] (over (gathered (c .state)) a)
 unfolding closedForm holding readerAfter gathered cutEscape kept over

@@ -127,10 +127,10 @@ flag-again p xs =
     ∙ append-nil (checkedIn p (xs ++ (0x7e ∷ [])))
 
 -- the first flag of a frame ends what was open before it
-pub frame-after : (p xs body ys : List ℕ) → SpinelBody body → Octets body
-    → checkedIn p (xs ++ (frame body ++ ys)) ≡ checkedIn p (xs ++ (0x7e ∷ [])) ++ (body ∷ checkedIn [] ys)
+pub frame-after : (body : List ℕ) → SpinelBody body → Octets body
+    → (p xs ys : List ℕ) → checkedIn p (xs ++ (frame body ++ ys)) ≡ checkedIn p (xs ++ (0x7e ∷ [])) ++ (body ∷ checkedIn [] ys)
 unfolding frame
-frame-after p xs body ys spinel octets =
+frame-after body spinel octets p xs ys =
     let rest : List ℕ = stuffed (withCheck body) ++ (0x7e ∷ []) in
     flag-parts p xs (rest ++ ys)
     ∙ ap (λ l. checkedIn p (xs ++ (0x7e ∷ [])) ++ l) (sym (flag-alone (rest ++ ys)) ∙ frame-then body spinel octets ys)

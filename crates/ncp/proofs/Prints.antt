@@ -14,23 +14,23 @@ use Rattle.octets.proofs.LawsLists.{empty}
 use Rattle.octets.proofs.LawsRuns.{each-append}
 use Rattle.octets.proofs.LawsTests.{by-test, chosen}
 use Rattle.lines.specs.Line.{lineOf}
-use Rattle.frame.specs.Frame.{stuffed}
 use Rattle.hdlc.specs.Fate.{given}
 use Rattle.hdlc.specs.Reader.{maxGathered, fresh, assembling, Outcome, run}
-use Rattle.hdlc.specs.States.{openPiece, closedForm}
+use Rattle.hdlc.specs.States.{closedForm}
 use Rattle.hdlc.specs.Wire.{fatesOf, finished, unfinished, checkedOf, checkedIn, call, callReads}
-use Rattle.hdlc.proofs.ClosedForm.{call-closed, open-holds}
-use Rattle.hdlc.proofs.LawsCalls.{After, after-call, call-checked}
+use Rattle.hdlc.proofs.ClosedForm.{call-closed}
+use Rattle.hdlc.proofs.LawsCalls.{After, fresh-after, after-call, call-checked}
 use Rattle.hdlc.proofs.LawsPieces.{unfinished-append}
+use Rattle.hdlc.proofs.CheckedBodies.{checked-append}
 use Rattle.hdlc.proofs.ReaderRules.{fresh-rules, rules-hold}
 use Rattle.device.specs.State.{maxReply}
 use Rattle.device.specs.declared.state.Device.{Device}
 use Rattle.device.specs.Rules.{rules}
 use Rattle.engine.specs.Merged.{deviceAfter, repliesTo}
+use Rattle.engine.proofs.RepliesInOrder.{device-append, replies-append}
 use Rattle.serial.specs.Receiving.{unrefused}
 use Rattle.serial.proofs.GoesOn.{not-refused}
 use Rattle.serial.proofs.LawsReceiving.{found, unrefused-device, unrefused-read}
-use Rattle.serial.proofs.LawsHistories.{device-joined, replies-joined}
 use Rattle.ncp.specs.Turn.{replyBody}
 use Rattle.ncp.specs.Serve.{State, keeps, start, gives, next, lineFor, feeds, fed, chunkLeaves, chunkLines, chunksLeave, linesOf, maxReads}
 use Rattle.ncp.proofs.LawsServing.{next-keeps, next-reads}
@@ -47,9 +47,10 @@ comes-then {s} {t} {u} {p} {xs} {ys} {l} {m} v w =
     let cs = checkedIn (unfinished p xs) ys in
     record {
       lines =
-          ap₂ _++_ (v .lines) (w .lines ∙ ap (λ d. each lineOf (repliesTo d cs)) (v .device))
-          ∙ sym (ap (each lineOf) (replies-joined (s .device) p xs ys) ∙ each-append lineOf (repliesTo (s .device) (checkedIn p xs)) _);
-      device = w .device ∙ ap (λ d. deviceAfter d cs) (v .device) ∙ sym (device-joined (s .device) p xs ys);
+          rw (checked-append p xs ys, replies-append (s .device) (checkedIn p xs) cs, each-append lineOf (repliesTo (s .device) (checkedIn p xs)) _)
+          (ap₂ _++_ (v .lines) (w .lines ∙ ap (λ d. each lineOf (repliesTo d cs)) (v .device)));
+      device =
+          rw (checked-append p xs ys, device-append (s .device) (checkedIn p xs) cs) (w .device ∙ ap (λ d. deviceAfter d cs) (v .device));
       keeps = w .keeps;
       piece = subst (λ q. After q (assembling (u .reader) (u .assembly))) (sym (unfinished-append p xs ys)) (w .piece);
     }
@@ -143,10 +144,7 @@ comes-chunks s p (xs ∷ xss) k a =
 -- from the start
 module _ (d : Device) (a : List ℕ) (xss : List (List ℕ)) (kept : rules d ≡ true) (room : maxGathered ≤ length a) where
   comes : Comes (start d a) [] (each (λ xs. xs) xss) (linesOf (start d a) xss) (chunksLeave (start d a) xss)
-  unfolding openPiece stuffed
-  comes =
-      comes-chunks (start d a) [] xss (record { device = kept; reader = rules-hold fresh fresh-rules; room = room })
-      (record { under = a; room = room; state = open-holds fresh a fresh-rules room })
+  comes = comes-chunks (start d a) [] xss (record { device = kept; reader = rules-hold fresh fresh-rules; room = room }) (fresh-after a room)
 
   pub prints : linesOf (start d a) xss ≡ each lineOf (repliesTo d (checkedIn [] (each (λ xs. xs) xss)))
   prints = comes .lines

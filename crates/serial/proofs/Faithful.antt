@@ -12,12 +12,10 @@ use native.Mathlib.Omega.{arith}
 use lib.Dec.{eqb, ltb}
 use lib.ListN.{length, length-map}
 use Rattle.octets.proofs.LawsTests.{chosen}
-use Rattle.frame.specs.Frame.{frame, stuffed}
+use Rattle.frame.specs.Frame.{frame}
 use Rattle.hdlc.specs.Reader.{maxGathered, fresh}
-use Rattle.hdlc.specs.States.{openPiece}
 use Rattle.hdlc.specs.Wire.{checkedIn}
-use Rattle.hdlc.proofs.ClosedForm.{open-holds}
-use Rattle.hdlc.proofs.LawsCalls.{call-number}
+use Rattle.hdlc.proofs.LawsCalls.{call-number, fresh-after}
 use Rattle.hdlc.proofs.ReaderRules.{fresh-rules, rules-hold}
 use Rattle.device.specs.declared.state.Device.{Device}
 use Rattle.device.specs.Rules.{rules}
@@ -42,13 +40,12 @@ pub record Faithful (s : Setup) (h : History) : Type 0 where
 -- ---- the start
 
 starts : (d : Device) (a : List ℕ) → rules d ≡ true → Stands a [] (startFrom d a)
-unfolding openPiece stuffed
 starts d a keeps =
     record {
       device = keeps;
       reader = rules-hold fresh fresh-rules;
       size = refl;
-      holds = λ room. record { under = a; room = room; state = open-holds fresh a fresh-rules room };
+      holds = fresh-after a;
     }
 
 -- ---- a call answers one frame or none
@@ -77,10 +74,14 @@ module _ (d : Device) (keeps : rules d ≡ true) (h : History) where
   unfolding endFrom openAfter laid
   after c = step (h .assembly) (openAfter h) (endFrom d h) c (all .stands)
 
+  -- the cable carries it (engine, specs/Carried.antt)
+  pub carried : Carried frame d (transcript d h)
+  unfolding repliesFrom endFrom bodies laid
+  carried = all .carried
+
   -- what its calls write and read, and the box at its end
   pub writes-replies : repliesFrom d h ≡ map frame (repliesTo d (bodies h))
-  unfolding repliesFrom bodies laid
-  writes-replies = all .replies
+  writes-replies = carried .written
 
   pub one-reply-each : length (repliesFrom d h) ≡ length (bodies h)
   one-reply-each = ap length writes-replies ∙ length-map (repliesTo d (bodies h)) frame ∙ one-each d (bodies h)
@@ -90,12 +91,7 @@ module _ (d : Device) (keeps : rules d ≡ true) (h : History) where
   reads-laid = all .read
 
   pub ends-as-engine : endFrom d h .device ≡ deviceAfter d (bodies h)
-  unfolding endFrom bodies laid
-  ends-as-engine = all .device
-
-  -- so the cable carries it (engine, specs/Carried.antt)
-  pub carried : Carried frame d (transcript d h)
-  carried = record { replies = writes-replies; device = ends-as-engine }
+  ends-as-engine = carried .device
 
   -- whatever call comes next
   pub means-more : (c : ReceivingCall) → reported (gives (endFrom d h) c) ≡ callMeans (h .assembly) (openAfter h) (deviceAfter d (bodies h)) c
@@ -105,7 +101,7 @@ module _ (d : Device) (keeps : rules d ≡ true) (h : History) where
   few-more c =
       let bs = checkedIn (openAfter h) (readBy (h .assembly) (openAfter h) c) in
       let e = endFrom d h .device in
-      let size : length (replyIn (gives (endFrom d h) c)) ≡ length bs = ap length (after c .reply) ∙ length-map (repliesTo e bs) frame ∙ one-each e bs in
+      let size : length (replyIn (gives (endFrom d h) c)) ≡ length bs = ap length (after c .carried .written) ∙ length-map (repliesTo e bs) frame ∙ one-each e bs in
       rw (← size) (few-replies (gives (endFrom d h) c))
 
   pub never-11-more : (c : ReceivingCall) → gives (endFrom d h) c .number ≢ 11

@@ -1,7 +1,7 @@
 -- A history's calls, one by one and all: what stands between two calls, told by the octets read so far.
 use mathlib.Core.Path.{_≡_, refl, sym, ap, ap₂, _∙_}
 use mathlib.Core.Bool.{true, false}
-use mathlib.Core.List.{List, [], _∷_, _++_, map, map-append, foldl}
+use mathlib.Core.List.{List, [], _∷_, _++_, foldl}
 use Prim.Native.Nat.{ℕ, _≤_}
 use native.Mathlib.Omega.{arith}
 use borrow.Author.Tests.{ltb-false}
@@ -20,29 +20,14 @@ use Rattle.hdlc.proofs.LawsCalls.{After, after-call, call-checked}
 use Rattle.hdlc.proofs.LawsPieces.{unfinished-append}
 use Rattle.hdlc.proofs.CheckedBodies.{checked-append}
 use Rattle.hdlc.proofs.ReaderRules.{rules-told, run-rules}
-use Rattle.device.specs.declared.state.Device.{Device}
 use Rattle.device.specs.Rules.{rules}
 use Rattle.engine.specs.Merged.{deviceAfter, repliesTo}
-use Rattle.engine.proofs.RepliesInOrder.{device-append, replies-append}
+use Rattle.engine.specs.Carried.{Carried}
+use Rattle.engine.proofs.LawsCarried.{carried-none, carried-then}
 use Rattle.engine.proofs.RulesKept.{bodies-keep}
 use Rattle.serial.specs.Receiving.{minOutput, breaksRules, refused, unrefused, receive}
 use Rattle.serial.specs.Histories.{Lent, own, short, ReceivingCall, State, lentFrom, leftIn, gives, next, replyIn, callsWrite, callsRead, isRefused, readBy, laidFrom, report, reported, callMeans}
 use Rattle.serial.proofs.LawsReceiving.{unrefused-device, unrefused-reply, unrefused-octets, unrefused-read, frame-some}
-
--- ---- octets end to end
-
--- the box after them, and the replies to them
-pub device-joined : (d : Device) (p xs ys : List ℕ)
-    → deviceAfter d (checkedIn p (xs ++ ys)) ≡ deviceAfter (deviceAfter d (checkedIn p xs)) (checkedIn (unfinished p xs) ys)
-device-joined d p xs ys = ap (deviceAfter d) (checked-append p xs ys) ∙ device-append d (checkedIn p xs) (checkedIn (unfinished p xs) ys)
-
-pub replies-joined : (d : Device) (p xs ys : List ℕ)
-    → repliesTo d (checkedIn p (xs ++ ys)) ≡ repliesTo d (checkedIn p xs) ++ repliesTo (deviceAfter d (checkedIn p xs)) (checkedIn (unfinished p xs) ys)
-replies-joined d p xs ys = ap (repliesTo d) (checked-append p xs ys) ∙ replies-append d (checkedIn p xs) (checkedIn (unfinished p xs) ys)
-
-pub frames-append : (d : Device) (bs cs : List (List ℕ))
-    → map frame (repliesTo d (bs ++ cs)) ≡ map frame (repliesTo d bs) ++ map frame (repliesTo (deviceAfter d bs) cs)
-frames-append d bs cs = ap (map frame) (replies-append d bs cs) ∙ map-append frame (repliesTo d bs) (repliesTo (deviceAfter d bs) cs)
 
 -- ---- the lent buffer
 
@@ -70,8 +55,7 @@ pub record Stands (a p : List ℕ) (t : State) : Type 0 where
 -- a call, told by the octets w that it read
 pub record Step (a p w : List ℕ) (t : State) (c : ReceivingCall) : Type 0 where
   pub read : take (gives t c .read) (c .input) ≡ w
-  pub reply : replyIn (gives t c) ≡ map frame (repliesTo (t .device) (checkedIn p w))
-  pub device : next t c .device ≡ deviceAfter (t .device) (checkedIn p w)
+  pub carried : Carried frame (t .device) (record { bodies = checkedIn p w; written = replyIn (gives t c); device = next t c .device })
   pub stands : Stands a (unfinished p w) (next t c)
   pub reported : reported (gives t c) ≡ callMeans a p (t .device) c
 
@@ -97,8 +81,7 @@ module _ (a p : List ℕ) (t : State) (c : ReceivingCall) (s : Stands a p t) whe
         rw e
         (record {
           read = ap (λ q. take (q .read) (c .input)) g;
-          reply = ap replyIn g;
-          device = ap (λ q. q .device) g;
+          carried = record { written = ap replyIn g; device = ap (λ q. q .device) g };
           stands = rw same s;
           reported = ap reported g ∙ sym m;
         })
@@ -169,8 +152,7 @@ module _ (a p : List ℕ) (t : State) (c : ReceivingCall) (s : Stands a p t) whe
         rw (e, f)
         (record {
           read = ap (λ n. take n (c .input)) count-read;
-          reply = ap replyIn answers ∙ unrefused-reply frame (t .device) outcome (c .output) found frame-some;
-          device = device-next;
+          carried = record { written = ap replyIn answers ∙ unrefused-reply frame (t .device) outcome (c .output) found frame-some; device = device-next };
           stands = stands-next;
           reported = rw (e, f) (λ i. record { number = fate-read i; read = count-read i; octets = octets-written i });
         })
@@ -187,13 +169,12 @@ module _ (a p : List ℕ) (t : State) (c : ReceivingCall) (s : Stands a p t) whe
 
 pub record Runs (a p : List ℕ) (t : State) (cs : List ReceivingCall) : Type 0 where
   pub read : callsRead t cs ≡ laidFrom a p cs
-  pub replies : callsWrite t cs ≡ map frame (repliesTo (t .device) (checkedIn p (laidFrom a p cs)))
-  pub device : foldl next t cs .device ≡ deviceAfter (t .device) (checkedIn p (laidFrom a p cs))
+  pub carried : Carried frame (t .device) (record { bodies = checkedIn p (laidFrom a p cs); written = callsWrite t cs; device = foldl next t cs .device })
   pub stands : Stands a (unfinished p (laidFrom a p cs)) (foldl next t cs)
 
 pub runs : (a p : List ℕ) (t : State) (cs : List ReceivingCall) → Stands a p t → Runs a p t cs
 unfolding callsRead laidFrom callsWrite checkedIn checkedOf fatesOf finished unfinished repliesTo deviceAfter
-runs a p t [] s = record { read = refl; replies = refl; device = refl; stands = s }
+runs a p t [] s = record { read = refl; carried = carried-none (t .device); stands = s }
 runs a p t (c ∷ cs) s =
     let w = readBy a p c in
     let q = unfinished p w in
@@ -202,9 +183,6 @@ runs a p t (c ∷ cs) s =
     let rest = runs a q (next t c) cs (one .stands) in
     record {
       read = ap₂ _++_ (one .read) (rest .read);
-      replies =
-          ap₂ _++_ (one .reply) (rest .replies ∙ ap (λ d. map frame (repliesTo d (checkedIn q xs))) (one .device))
-          ∙ sym (ap (map frame) (replies-joined (t .device) p w xs) ∙ map-append frame (repliesTo (t .device) (checkedIn p w)) _);
-      device = rest .device ∙ ap (λ d. deviceAfter d (checkedIn q xs)) (one .device) ∙ sym (device-joined (t .device) p w xs);
+      carried = rw (checked-append p w xs) (carried-then (one .carried) (rest .carried));
       stands = rw (unfinished-append p w xs) (rest .stands);
     }

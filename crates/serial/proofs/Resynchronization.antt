@@ -17,8 +17,8 @@ use Rattle.device.specs.Setup.{Setup, deviceFrom}
 use Rattle.device.proofs.SetupKeepsRules.{device-from-keeps}
 use Rattle.engine.specs.Engine.{engine}
 use Rattle.engine.specs.Merged.{deviceAfter, repliesTo}
+use Rattle.engine.proofs.RepliesInOrder.{mapped-append}
 use Rattle.serial.specs.Histories.{History, repliesFrom, laid, bodies}
-use Rattle.serial.proofs.LawsHistories.{frames-append}
 use Rattle.serial.proofs.Faithful.{writes-replies}
 
 -- b is checked and answered after some bodies and before others, in a history from the box d
@@ -37,10 +37,10 @@ module _ (b : List ℕ) (spinel : SpinelBody b) (octets : Octets b) where
   unfolding bodies repliesTo
   resynchronizes-from d keeps h xs ys e =
       let before = checkedIn [] (xs ++ (0x7e ∷ [])) in
-      let all = ap (checkedIn []) e ∙ frame-after [] xs b ys spinel octets in
+      let all = ap (checkedIn []) e ∙ frame-after b spinel octets [] xs ys in
       record {
         bodies = all;
-        replies = writes-replies d keeps h ∙ ap (λ bs. map frame (repliesTo d bs)) all ∙ frames-append d before (b ∷ checkedIn [] ys);
+        replies = writes-replies d keeps h ∙ ap (λ bs. map frame (repliesTo d bs)) all ∙ mapped-append frame d before (b ∷ checkedIn [] ys);
       }
 
   -- a flag of its own before the frame, and nothing after it: the last reply is b's

@@ -9,9 +9,9 @@ use Rattle.frame.specs.Frame.{frame}
 use Rattle.device.specs.State.{maxLinks}
 use Rattle.device.specs.Setup.{Setup, deviceFrom}
 use Rattle.device.proofs.SetupKeepsRules.{device-from-keeps}
-use Rattle.engine.specs.Links.{valuesOn, statusOn}
+use Rattle.engine.specs.Links.{octetsOn, valuesOn, statusOn}
 use Rattle.engine.proofs.AnyFraming.{octets-framed as carried-framed, separate as carried-separate}
-use Rattle.serial.specs.Histories.{History, endOf, repliesIn, transcript}
+use Rattle.serial.specs.Histories.{History, endOf, repliesIn}
 use Rattle.serial.specs.Links.{mergedIn, octetsTo, bodiesTo}
 use Rattle.serial.proofs.Faithful.{carried}
 
@@ -23,15 +23,13 @@ pub record Alike (s : Setup) (k : ℕ) (g h : History) : Type 0 where
 
 -- what the calls wrote for link k is what the engine replied to it, framed
 pub octets-framed : (s : Setup) (k : ℕ) (h : History) → octetsTo s k h ≡ map frame (bodiesTo s k h)
-unfolding octetsTo bodiesTo repliesIn
-octets-framed s k h =
-    let d = deviceFrom s in
-    carried-framed frame d k (transcript d h) (carried d (device-from-keeps s) h)
+unfolding octetsTo bodiesTo repliesIn octetsOn
+octets-framed s k h = carried-framed (carried (deviceFrom s) (device-from-keeps s) h) k
 
 pub separate : (s : Setup) (k : ℕ) → k < maxLinks → (g h : History) → mergedIn s k g ≡ mergedIn s k h → Alike s k g h
-unfolding mergedIn bodiesTo octetsTo repliesIn endOf
+unfolding mergedIn bodiesTo octetsTo repliesIn endOf octetsOn
 separate s k few g h m =
     let d = deviceFrom s in
     let keeps = device-from-keeps s in
-    let alike = carried-separate frame d k keeps few (transcript d g) (transcript d h) (carried d keeps g) (carried d keeps h) m in
+    let alike = carried-separate (carried d keeps g) (carried d keeps h) keeps k few m in
     record { bodies = alike .bodies; octets = alike .octets; values = alike .values; status = alike .status }
