@@ -32,7 +32,7 @@ separate {frame} {d} {t} {u} g h keeps k few m =
     let same = separation k few d d (t .bodies) (u .bodies) keeps keeps refl m in
     let view : viewOf k (t .device) ≡ viewOf k (u .device) = ap (viewOf k) (g .device) ∙ same .0 ∙ sym (ap (viewOf k) (h .device)) in
     record {
-      bodies = same .1;
+      replies = same .1;
       octets = octets-framed g k ∙ ap (map frame) (same .1) ∙ sym (octets-framed h k);
       values = ap (λ v. map (λ r. valueOf v (r .kind)) rows) view;
       status = ap (λ v. cond (ltb k (v .settings .links)) (v .link .status ∷ []) []) view;

@@ -3,3 +3,4 @@ pub mod Merged
 pub mod Carried
 pub mod Links
 pub mod Marked
+pub mod Worked

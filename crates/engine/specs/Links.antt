@@ -48,7 +48,7 @@ statusOn k d = cond (ltb k (d .settings .links)) (viewOf k d .link .status ∷ [
 -- ---- two histories from the box d in which link k is told the same and ends with the same
 
 pub record AlikeOn (k : ℕ) (d : Device) (t u : Transcript) : Type 0 where
-  pub bodies : repliesOn k d (t .bodies) ≡ repliesOn k d (u .bodies)
+  pub replies : repliesOn k d (t .bodies) ≡ repliesOn k d (u .bodies)
   pub octets : octetsOn k d t ≡ octetsOn k d u
   pub values : valuesOn k (t .device) ≡ valuesOn k (u .device)
   pub status : statusOn k (t .device) ≡ statusOn k (u .device)

@@ -18,7 +18,7 @@ use Rattle.device.proofs.SetupKeepsRules.{device-from-keeps}
 use Rattle.engine.specs.Engine.{engine}
 use Rattle.engine.specs.Merged.{deviceAfter, repliesTo}
 use Rattle.engine.proofs.RepliesInOrder.{mapped-append}
-use Rattle.serial.specs.Histories.{History, repliesFrom, laid, bodies}
+use Rattle.serial.specs.Histories.{History, repliesFrom, repliesIn, laid, bodies}
 use Rattle.serial.proofs.Faithful.{writes-replies}
 
 -- b is checked and answered after some bodies and before others, in a history from the box d
@@ -27,9 +27,15 @@ pub record AnswersFrom (d : Device) (h : History) (before : List (List ℕ)) (b 
   pub replies : let e = deviceAfter d before in
       repliesFrom d h ≡ map frame (repliesTo d before) ++ (frame (engine e b .reply) ∷ map frame (repliesTo (engine e b .device) later))
 
--- from what setup returns
-abbrev pub Answers : Setup → History → List (List ℕ) → List ℕ → List (List ℕ) → Type 0
-Answers s h before b later = AnswersFrom (deviceFrom s) h before b later
+-- the same in a history from what setup returns
+pub record Answers (s : Setup) (h : History) (before : List (List ℕ)) (b : List ℕ) (later : List (List ℕ)) : Type 0 where
+  pub bodies : bodies h ≡ before ++ (b ∷ later)
+  pub replies : let d = deviceAfter (deviceFrom s) before in
+      repliesIn s h ≡ map frame (repliesTo (deviceFrom s) before) ++ (frame (engine d b .reply) ∷ map frame (repliesTo (engine d b .device) later))
+
+set-up : {s : Setup} {h : History} {before later : List (List ℕ)} {b : List ℕ} → AnswersFrom (deviceFrom s) h before b later → Answers s h before b later
+unfolding repliesIn
+set-up a = record { bodies = a .bodies; replies = a .replies }
 
 module _ (b : List ℕ) (spinel : SpinelBody b) (octets : Octets b) where
   pub resynchronizes-from : (d : Device) → rules d ≡ true → (h : History) (xs ys : List ℕ) → laid h ≡ xs ++ (frame b ++ ys)
@@ -54,7 +60,7 @@ module _ (b : List ℕ) (spinel : SpinelBody b) (octets : Octets b) where
 
   pub resynchronizes : (s : Setup) (h : History) (xs ys : List ℕ) → laid h ≡ xs ++ (frame b ++ ys)
       → Answers s h (checkedIn [] (xs ++ (0x7e ∷ []))) b (checkedIn [] ys)
-  resynchronizes s = resynchronizes-from (deviceFrom s) (device-from-keeps s)
+  resynchronizes s h xs ys e = set-up (resynchronizes-from (deviceFrom s) (device-from-keeps s) h xs ys e)
 
   pub last-reply : (s : Setup) (h : History) (xs : List ℕ) → laid h ≡ xs ++ (0x7e ∷ frame b) → Answers s h (checkedIn [] (xs ++ (0x7e ∷ []))) b []
-  last-reply s = last-reply-from (deviceFrom s) (device-from-keeps s)
+  last-reply s h xs e = set-up (last-reply-from (deviceFrom s) (device-from-keeps s) h xs e)

@@ -3,15 +3,19 @@
 -- same order, and at the end its values in every row of the table and its last status. This is the engine's promise over checked bodies
 -- (engine, proofs/AnyFraming.antt), which the cable carries.
 use mathlib.Core.Path.{_≡_}
+use mathlib.Core.Bool.{true}
 use mathlib.Core.List.{map}
 use Prim.Native.Nat.{ℕ, _<_}
 use Rattle.frame.specs.Frame.{frame}
 use Rattle.device.specs.State.{maxLinks}
+use Rattle.device.specs.Rules.{rules}
+use Rattle.device.specs.declared.state.Device.{Device}
 use Rattle.device.specs.Setup.{Setup, deviceFrom}
 use Rattle.device.proofs.SetupKeepsRules.{device-from-keeps}
-use Rattle.engine.specs.Links.{octetsOn, valuesOn, statusOn}
+use Rattle.engine.specs.Merged.{merged}
+use Rattle.engine.specs.Links.{octetsOn, valuesOn, statusOn, AlikeOn}
 use Rattle.engine.proofs.AnyFraming.{octets-framed as carried-framed, separate as carried-separate}
-use Rattle.serial.specs.Histories.{History, endOf, repliesIn}
+use Rattle.serial.specs.Histories.{History, endOf, repliesIn, bodies, transcript}
 use Rattle.serial.specs.Links.{mergedIn, octetsTo, bodiesTo}
 use Rattle.serial.proofs.Faithful.{carried}
 
@@ -26,10 +30,13 @@ pub octets-framed : (s : Setup) (k : ℕ) (h : History) → octetsTo s k h ≡ m
 unfolding octetsTo bodiesTo repliesIn octetsOn
 octets-framed s k h = carried-framed (carried (deviceFrom s) (device-from-keeps s) h) k
 
+-- from any box that keeps its rules
+pub separate-from : (d : Device) → rules d ≡ true → (k : ℕ) → k < maxLinks → (g h : History)
+    → merged (d .settings) k (bodies g) ≡ merged (d .settings) k (bodies h) → AlikeOn k d (transcript d g) (transcript d h)
+separate-from d keeps k few g h m = carried-separate (carried d keeps g) (carried d keeps h) keeps k few m
+
 pub separate : (s : Setup) (k : ℕ) → k < maxLinks → (g h : History) → mergedIn s k g ≡ mergedIn s k h → Alike s k g h
 unfolding mergedIn bodiesTo octetsTo repliesIn endOf octetsOn
 separate s k few g h m =
-    let d = deviceFrom s in
-    let keeps = device-from-keeps s in
-    let alike = carried-separate (carried d keeps g) (carried d keeps h) keeps k few m in
-    record { bodies = alike .bodies; octets = alike .octets; values = alike .values; status = alike .status }
+    let alike = separate-from (deviceFrom s) (device-from-keeps s) k few g h m in
+    record { bodies = alike .replies; octets = alike .octets; values = alike .values; status = alike .status }

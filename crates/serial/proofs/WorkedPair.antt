@@ -16,25 +16,21 @@ use Rattle.frame.specs.Fcs.{fcsBit, fcsBits, fcsOctet, fcsFrom, fcs}
 use Rattle.hdlc.specs.Fate.{given}
 use Rattle.hdlc.specs.Reader.{bodyOf, checkOf, maxGathered}
 use Rattle.hdlc.specs.Wire.{kept, meant, pends, gathered, cutEscape, contentFate, pieceFate, ended, grown, finished, unfinished, fatesOf, checkedOf, checkedIn, pieceFateAt, call, callReads}
-use Rattle.device.specs.State.{fresh, addressSize}
+use Rattle.device.specs.State.{fresh}
 use Rattle.device.specs.Text.{goodText, isText}
-use Rattle.device.specs.Setup.{isGoodSetup, setupFor, Setup, deviceFrom}
+use Rattle.device.specs.Setup.{isGoodSetup, setupFor, deviceFrom}
 use Rattle.device.specs.declared.view.Effect.the-variants.{Reset, Powered}
 use Rattle.command.specs.Effects.{isReset, isPower, effectOf}
 use Rattle.engine.specs.Engine.{linkOf, isSetUp}
 use Rattle.engine.specs.Merged.{deviceAfter, Item, whole, only, effectItem, itemOf, merged}
 use Rattle.engine.specs.Links.{repliesOn, valuesOn, statusOn}
-use Rattle.engine.specs.Marked.{freshBox}
-use Rattle.engine.proofs.MarkedBodies.{workedBodies, workedReplies, workedValues, worked-link}
+use Rattle.engine.specs.Worked.{workedSetup, workedBodies, repliesOn1, valuesOn1}
+use Rattle.engine.proofs.MarkedBodies.{worked-links}
 use Rattle.serial.specs.Receiving.{minOutput}
 use Rattle.serial.specs.Histories.{own, short, ReceivingCall, History, endOf, isRefused, readBy, laidFrom, laid, bodies, deviceIn}
 use Rattle.serial.specs.Links.{mergedIn, octetsTo, bodiesTo}
 use Rattle.serial.proofs.Faithful.{faithful}
 use Rattle.serial.proofs.Separate.{Alike, octets-framed, separate}
-
--- a box of two links
-abbrev pub two-links : Setup
-two-links = record { links = 2; vendor = 0; text = []; address = replicate addressSize 0 }
 
 -- a call with the own buffer and room for a reply
 abbrev reads : List ℕ → ReceivingCall
@@ -88,7 +84,7 @@ expected =
     whole (0x9d ∷ 0x04 ∷ 0x5c ∷ 0x13 ∷ 0x00 ∷ []) ∷
     []
 
-pub both-merged : (mergedIn two-links 1 noisy ≡ expected) × (mergedIn two-links 1 clean ≡ expected)
+pub both-merged : (mergedIn workedSetup 1 noisy ≡ expected) × (mergedIn workedSetup 1 clean ≡ expected)
 unfolding before le leAt pad isFlag isEscape isSkipped fcsBit fcsBits fcsOctet fcsFrom fcs bodyOf checkOf given
     kept meant pends gathered cutEscape contentFate pieceFate ended grown finished unfinished fatesOf pieceFateAt call callReads
     goodText isText fresh isGoodSetup setupFor linkOf isSetUp isReset isPower effectOf effectItem itemOf merged
@@ -101,19 +97,19 @@ unfolding le leAt isFlag isEscape isSkipped fcsBit fcsBits fcsOctet fcsFrom fcs 
     isRefused readBy laidFrom laid checkedOf checkedIn bodies
 other-bodies = (refl, refl)
 
-pub alike : Alike two-links 1 noisy clean
-alike = separate two-links 1 (omega arith) noisy clean (both-merged .0 ∙ sym (both-merged .1))
+pub alike : Alike workedSetup 1 noisy clean
+alike = separate workedSetup 1 (omega arith) noisy clean (both-merged .0 ∙ sym (both-merged .1))
 
 -- ---- so link 1 has of the noisy history what was worked out for the bodies of the clean one
 
-pub noisy-replies : (bodiesTo two-links 1 noisy ≡ workedReplies) × (octetsTo two-links 1 noisy ≡ map frame workedReplies)
-unfolding bodiesTo freshBox
+pub noisy-replies : (bodiesTo workedSetup 1 noisy ≡ repliesOn1) × (octetsTo workedSetup 1 noisy ≡ map frame repliesOn1)
+unfolding bodiesTo
 noisy-replies =
-    let replied = alike .bodies ∙ ap (repliesOn 1 (deviceFrom two-links)) (other-bodies .1) ∙ worked-link .0 in
-    (replied, octets-framed two-links 1 noisy ∙ ap (map frame) replied)
+    let replied = alike .bodies ∙ ap (repliesOn 1 (deviceFrom workedSetup)) (other-bodies .1) ∙ worked-links .replies-1 in
+    (replied, octets-framed workedSetup 1 noisy ∙ ap (map frame) replied)
 
-pub noisy-values : let d = endOf two-links noisy .device in (valuesOn 1 d ≡ workedValues) × (statusOn 1 d ≡ 3 ∷ [])
-unfolding deviceIn freshBox
+pub noisy-values : let d = endOf workedSetup noisy .device in (valuesOn 1 d ≡ valuesOn1) × (statusOn 1 d ≡ 3 ∷ [])
+unfolding deviceIn
 noisy-values =
-    let end = faithful two-links clean .device ∙ ap (deviceAfter (deviceFrom two-links)) (other-bodies .1) in
-    (alike .values ∙ ap (valuesOn 1) end ∙ worked-link .1, alike .status ∙ ap (statusOn 1) end ∙ worked-link .2)
+    let end = faithful workedSetup clean .device ∙ ap (deviceAfter (deviceFrom workedSetup)) (other-bodies .1) in
+    (alike .values ∙ ap (valuesOn 1) end ∙ worked-links .values-1, alike .status ∙ ap (statusOn 1) end ∙ worked-links .status-1)

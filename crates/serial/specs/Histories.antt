@@ -92,9 +92,6 @@ readFrom d h = callsRead (startFrom d (h .assembly)) (h .calls)
 
 -- ---- "Both start from a fresh reader and what setup returns"
 
-abbrev pub start : Setup → List ℕ → State
-start s a = startFrom (deviceFrom s) a
-
 unfoldable pub endOf : Setup → History → State
 endOf s h = endFrom (deviceFrom s) h
 
@@ -121,7 +118,7 @@ laidFrom a p cs = emitted (readBy a) (λ q c. unfinished q (readBy a q c)) p cs
 unfoldable pub laid : History → List ℕ
 laid h = laidFrom (h .assembly) [] (h .calls)
 
--- its checked bodies, in order: "Cut this at the flags"
+-- its checked bodies, in order
 unfoldable pub bodies : History → List (List ℕ)
 bodies h = checkedIn [] (laid h)
 
