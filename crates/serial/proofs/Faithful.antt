@@ -109,7 +109,7 @@ module _ (d : Device) (keeps : rules d ≡ true) (h : History) where
   never-11-more c e = never (h .assembly) (openAfter h) (deviceAfter d (bodies h)) c (sym (ap (λ m. m .number) (means-more c)) ∙ e)
 
 pub faithful : (s : Setup) (h : History) → Faithful s h
-unfolding endOf repliesIn readIn deviceIn
+unfolding endOf repliesIn readIn deviceIn endFrom repliesFrom readFrom
 faithful s h =
     let d = deviceFrom s in
     let keeps = device-from-keeps s in

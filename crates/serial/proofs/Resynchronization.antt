@@ -34,7 +34,7 @@ pub record Answers (s : Setup) (h : History) (before : List (List ℕ)) (b : Lis
       repliesIn s h ≡ map frame (repliesTo (deviceFrom s) before) ++ (frame (engine d b .reply) ∷ map frame (repliesTo (engine d b .device) later))
 
 set-up : {s : Setup} {h : History} {before later : List (List ℕ)} {b : List ℕ} → AnswersFrom (deviceFrom s) h before b later → Answers s h before b later
-unfolding repliesIn
+unfolding repliesIn repliesFrom
 set-up a = record { bodies = a .bodies; replies = a .replies }
 
 module _ (b : List ℕ) (spinel : SpinelBody b) (octets : Octets b) where

@@ -15,7 +15,7 @@ use Rattle.device.proofs.SetupKeepsRules.{device-from-keeps}
 use Rattle.engine.specs.Merged.{merged}
 use Rattle.engine.specs.Links.{octetsOn, valuesOn, statusOn, AlikeOn}
 use Rattle.engine.proofs.AnyFraming.{octets-framed as carried-framed, separate as carried-separate}
-use Rattle.serial.specs.Histories.{History, endOf, repliesIn, bodies, transcript}
+use Rattle.serial.specs.Histories.{History, endFrom, repliesFrom, endOf, repliesIn, bodies, transcript}
 use Rattle.serial.specs.Links.{mergedIn, octetsTo, bodiesTo}
 use Rattle.serial.proofs.Faithful.{carried}
 
@@ -27,7 +27,7 @@ pub record Alike (s : Setup) (k : ℕ) (g h : History) : Type 0 where
 
 -- what the calls wrote for link k is what the engine replied to it, framed
 pub octets-framed : (s : Setup) (k : ℕ) (h : History) → octetsTo s k h ≡ map frame (bodiesTo s k h)
-unfolding octetsTo bodiesTo repliesIn octetsOn
+unfolding octetsTo bodiesTo repliesIn repliesFrom octetsOn
 octets-framed s k h = carried-framed (carried (deviceFrom s) (device-from-keeps s) h) k
 
 -- from any box that keeps its rules
@@ -36,7 +36,7 @@ pub separate-from : (d : Device) → rules d ≡ true → (k : ℕ) → k < maxL
 separate-from d keeps k few g h m = carried-separate (carried d keeps g) (carried d keeps h) keeps k few m
 
 pub separate : (s : Setup) (k : ℕ) → k < maxLinks → (g h : History) → mergedIn s k g ≡ mergedIn s k h → Alike s k g h
-unfolding mergedIn bodiesTo octetsTo repliesIn endOf octetsOn
+unfolding mergedIn bodiesTo octetsTo repliesIn repliesFrom endOf endFrom octetsOn
 separate s k few g h m =
     let alike = separate-from (deviceFrom s) (device-from-keeps s) k few g h m in
     record { bodies = alike .replies; octets = alike .octets; values = alike .values; status = alike .status }

@@ -92,14 +92,17 @@ readFrom d h = callsRead (startFrom d (h .assembly)) (h .calls)
 
 -- ---- "Both start from a fresh reader and what setup returns"
 
+abbrev pub start : Setup → List ℕ → State
+start s a = startFrom (deviceFrom s) a
+
 unfoldable pub endOf : Setup → History → State
-endOf s h = endFrom (deviceFrom s) h
+endOf s h = foldl next (start s (h .assembly)) (h .calls)
 
 unfoldable pub repliesIn : Setup → History → List (List ℕ)
-repliesIn s h = repliesFrom (deviceFrom s) h
+repliesIn s h = callsWrite (start s (h .assembly)) (h .calls)
 
 unfoldable pub readIn : Setup → History → List ℕ
-readIn s h = readFrom (deviceFrom s) h
+readIn s h = callsRead (start s (h .assembly)) (h .calls)
 
 -- ---- the same by the octets
 
