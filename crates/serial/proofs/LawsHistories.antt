@@ -173,7 +173,7 @@ pub record Runs (a p : List ℕ) (t : State) (cs : List ReceivingCall) : Type 0 
   pub stands : Stands a (unfinished p (laidFrom a p cs)) (foldl next t cs)
 
 pub runs : (a p : List ℕ) (t : State) (cs : List ReceivingCall) → Stands a p t → Runs a p t cs
-unfolding callsRead laidFrom callsWrite checkedIn checkedOf fatesOf finished unfinished repliesTo deviceAfter
+unfolding callsRead laidFrom callsWrite checkedIn checkedOf fatesOf finished unfinished
 runs a p t [] s = record { read = refl; carried = carried-none (t .device); stands = s }
 runs a p t (c ∷ cs) s =
     let w = readBy a p c in

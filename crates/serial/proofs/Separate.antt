@@ -1,7 +1,7 @@
 -- PROMISE: links are separate, over whole histories (00, demand 3). Take any settings, good or bad, any two histories from them, and any
 -- link k of 0 to 3. If link k's merged sequence is the same in both, then so are its replies, as bodies and as octets written, in the
 -- same order, and at the end its values in every row of the table and its last status. This is the engine's promise over checked bodies
--- (engine, proofs/AnyFraming.antt), which the cable carries.
+-- (engine, proofs/AnyFraming.antt), carried by the cable; from any box that keeps its rules, and so from what setup returns.
 use mathlib.Core.Path.{_≡_}
 use mathlib.Core.Bool.{true}
 use mathlib.Core.List.{map}
