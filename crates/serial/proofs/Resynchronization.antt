@@ -33,9 +33,9 @@ pub record Answers (s : Setup) (h : History) (before : List (List ℕ)) (b : Lis
   pub replies : let d = deviceAfter (deviceFrom s) before in
       repliesIn s h ≡ map frame (repliesTo (deviceFrom s) before) ++ (frame (engine d b .reply) ∷ map frame (repliesTo (engine d b .device) later))
 
-set-up : {s : Setup} {h : History} {before later : List (List ℕ)} {b : List ℕ} → AnswersFrom (deviceFrom s) h before b later → Answers s h before b later
+over-setup : {s : Setup} {h : History} {before later : List (List ℕ)} {b : List ℕ} → AnswersFrom (deviceFrom s) h before b later → Answers s h before b later
 unfolding repliesIn repliesFrom
-set-up a = record { bodies = a .bodies; replies = a .replies }
+over-setup a = record { bodies = a .bodies; replies = a .replies }
 
 module _ (b : List ℕ) (spinel : SpinelBody b) (octets : Octets b) where
   pub resynchronizes-from : (d : Device) → rules d ≡ true → (h : History) (xs ys : List ℕ) → laid h ≡ xs ++ (frame b ++ ys)
@@ -60,7 +60,7 @@ module _ (b : List ℕ) (spinel : SpinelBody b) (octets : Octets b) where
 
   pub resynchronizes : (s : Setup) (h : History) (xs ys : List ℕ) → laid h ≡ xs ++ (frame b ++ ys)
       → Answers s h (checkedIn [] (xs ++ (0x7e ∷ []))) b (checkedIn [] ys)
-  resynchronizes s h xs ys e = set-up (resynchronizes-from (deviceFrom s) (device-from-keeps s) h xs ys e)
+  resynchronizes s h xs ys e = over-setup (resynchronizes-from (deviceFrom s) (device-from-keeps s) h xs ys e)
 
   pub last-reply : (s : Setup) (h : History) (xs : List ℕ) → laid h ≡ xs ++ (0x7e ∷ frame b) → Answers s h (checkedIn [] (xs ++ (0x7e ∷ []))) b []
-  last-reply s h xs e = set-up (last-reply-from (deviceFrom s) (device-from-keeps s) h xs e)
+  last-reply s h xs e = over-setup (last-reply-from (deviceFrom s) (device-from-keeps s) h xs e)
