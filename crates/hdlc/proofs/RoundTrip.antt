@@ -121,6 +121,6 @@ module _ (body : List ℕ) (spinel : SpinelBody body) (octets : Octets body) whe
   unfolding checkedIn checkedOf
   frame-checked = ap checkedOf (frame-told body size octets) ∙ rw (headed-checked body (spinel .2))
 
-  -- and what stands behind it is told as if it stood alone
+  -- and octets behind it have the checked bodies that they have alone
   pub frame-then : (xs : List ℕ) → checkedIn [] (frame body ++ xs) ≡ body ∷ checkedIn [] xs
   frame-then xs = checked-append [] (frame body) xs ∙ rw (frame-checked, frame-leaves body size octets)
