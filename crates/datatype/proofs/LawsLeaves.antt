@@ -6,10 +6,11 @@ use Prim.Native.Nat.{ℕ, _+_, _-_, _<_, _≤_}
 use native.Mathlib.Omega.{arith}
 use borrow.Author.Tests.{ltb-true, ltb-false}
 use lib.Dec.{ltb, leb}
-use lib.ListN.{length, getD, drop}
+use lib.ListN.{length, getD, take, drop}
 use Rattle.octets.proofs.LawsTests.{by-test, impossible}
 use Rattle.octets.specs.Finding.{before}
 use Rattle.octets.specs.LittleEndian.{leAt}
+use Rattle.utf8.specs.Utf8.{isUtf8}
 use Rattle.packed.specs.Packed.{packedAt}
 use Rattle.packed.specs.declared.Packed.{Packed}
 use Rattle.packed.specs.declared.Packed.the-variants as packed
@@ -46,7 +47,9 @@ module _ (part : List ℕ) (from start size next : ℕ) where
   unfolding textAt
   text-fits n e =
       by-test (ltb (from + n) (length part))
-      (λ t. let s = same (rw t at e) in omega (arith, ltb-true (from + n) (length part) t)) (λ t. impossible (cc (rw t at e)))
+      (λ t. by-test (isUtf8 (take n (drop from part)))
+      (λ u. let s = same (rw (t, u) at e) in omega (arith, ltb-true (from + n) (length part) t)) (λ u. impossible (cc (rw (t, u) at e))))
+      (λ t. impossible (cc (rw t at e)))
 
   pub counted-fits : from ≤ length part → countedAt part from ≡ At start size next → (start ≡ from + 2) × (next ≡ start + size) × (next ≤ length part)
   unfolding countedAt

@@ -4,9 +4,10 @@ use mathlib.Core.Bool.{cond}
 use mathlib.Core.List.{List}
 use Prim.Native.Nat.{ℕ, _+_, _-_}
 use lib.Dec.{ltb, leb}
-use lib.ListN.{length, getD, drop}
+use lib.ListN.{length, getD, take, drop}
 use Rattle.octets.specs.LittleEndian.{leAt}
 use Rattle.octets.specs.Finding.{before}
+use Rattle.utf8.specs.Utf8.{isUtf8}
 use Rattle.packed.specs.Packed.{packedAt}
 use Rattle.packed.specs.declared.Packed.{Packed}
 use Rattle.packed.specs.declared.Packed.the-variants as packed
@@ -28,9 +29,11 @@ unfoldable pub numberSpan : ℕ → Packed → Span
 numberSpan from packed.Unreadable = Misfit
 numberSpan from (packed.Number n next) = At from (next - from) next
 
--- text of so many octets up to its first zero; "the zero of U [isn't] part of a leaf"
+-- text of so many octets up to its first zero, which must be UTF-8 (02, T-01); "the zero of U [isn't] part of a leaf"
 unfoldable pub textAt : ℕ → List ℕ → ℕ → Span
-textAt size part from = cond (ltb (from + size) (length part)) (At from size (from + size + 1)) Misfit
+textAt size part from =
+    cond (ltb (from + size) (length part))
+    (cond (isUtf8 (take size (drop from part))) (At from size (from + size + 1)) Misfit) Misfit
 
 -- "d and t carry a 16-bit little-endian length of their contents"; "lengths ... aren't part of a leaf"
 unfoldable pub countedAt : List ℕ → ℕ → Span

@@ -4,6 +4,7 @@ use octets::read_le;
 use packed::Packed;
 use packed::read_packed;
 use typestring::Value;
+use utf8::is_utf8;
 ghost use mathlib.Core.Path.{_≡_};
 ghost use Prim.Native.Nat.{_≤_};
 ghost use lib.ListN.{length, drop};
@@ -69,8 +70,10 @@ fn text_at(part: &[u8], from: usize) -> Span
     if part.len() <= zero {
         return Span::Misfit;
     }
-    let next = zero + 1;
-    Span::At(from, zero - from, next)
+    if is_utf8(&part[from..zero]) {
+        return Span::At(from, zero - from, zero + 1);
+    }
+    Span::Misfit
 }
 
 // The octets behind a 16-bit count of them.

@@ -11,6 +11,7 @@ use Rattle.octets.specs.Padding.{pad}
 use Rattle.octets.specs.Scanning.{allFrom, allBelow, zerosFrom}
 use Rattle.octets.proofs.LawsTests.{chosen}
 use Rattle.octets.proofs.LawsScanning.{all-of}
+use Rattle.utf8.specs.Utf8.{ends, isUtf8}
 use Rattle.property.specs.Number.{numbers, within}
 use Rattle.device.specs.declared.state.Settings.{Settings}
 use Rattle.device.specs.State.{defaults, freshLink, noLink, fresh, addressSize, maxText, maxLinks}
@@ -23,7 +24,7 @@ use Rattle.device.proofs.LawsRules.{text-told}
 
 -- the fresh link keeps the rule of a link that is set up, and that of one that is not
 fresh-set : linkRule freshLink ≡ true
-unfolding linkRule sized inRange stackRule textRule portsRule padded isText goodText portsIn distinct
+unfolding linkRule sized inRange stackRule textRule portsRule padded isText goodText isUtf8 ends portsIn distinct
     before defaults numbers within pad allBelow allFrom zerosFrom
 fresh-set = refl
 
@@ -40,7 +41,7 @@ unfolding rules fresh within
 fresh-keeps s t = rw (t, all-of maxLinks (λ k. linkKept (s .links) (getD (replicate maxLinks freshLink) k noLink) k) (fresh-kept (s .links)))
 
 refusal-keeps : rules (refusal .device) ≡ true
-unfolding refusal settingsRule textRule padded isText goodText before pad zerosFrom allFrom
+unfolding refusal settingsRule textRule padded isText goodText isUtf8 ends before pad zerosFrom allFrom
 refusal-keeps = fresh-keeps (settingsFrom 1 0 [] (replicate addressSize 0)) refl
 
 ready-keeps : (links vendor : ℕ) (text address : List ℕ) → isGoodSetup links vendor text address ≡ true

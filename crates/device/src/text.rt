@@ -1,5 +1,6 @@
 // Texts: the version text and a link's name.
 use octets::find_octet;
+use utf8::is_utf8;
 ghost use mathlib.Core.Path.{_≡_};
 ghost use Rattle.device.specs.Text.{isText};
 
@@ -10,5 +11,8 @@ pub fn is_text(octets: &[u8], most: usize) -> bool
     if most < octets.len() {
         return false;
     }
-    find_octet(octets, 0, 0) == octets.len()
+    if is_utf8(octets) {
+        return find_octet(octets, 0, 0) == octets.len();
+    }
+    false
 }

@@ -5,7 +5,9 @@ use mathlib.Core.List.{[], _∷_, map}
 use Rattle.octets.specs.Finding.{before}
 use Rattle.octets.specs.LittleEndian.{le, leOctets}
 use Rattle.octets.specs.Padding.{pad}
+use Rattle.octets.specs.Ranges.{isBetween}
 use Rattle.packed.specs.Packed.{packed, packedIn, joined, numberIn, packedAt}
+use Rattle.utf8.specs.Utf8.{leads, leadIn, step, ends, isUtf8}
 use Rattle.property.specs.Row.{rows, lookupIn, lookup, allows}
 use Rattle.property.specs.Number.{numbers, within}
 use Rattle.device.specs.State.{defaults, fresh}
@@ -29,7 +31,7 @@ use Rattle.engine.specs.Worked.{workedSetup, workedBodies, repliesOn0, r
 
 pub marked-bodies : map (λ l. repliesTo freshBox (l .bodies)) marked ≡ map (λ l. l .replies) marked
 unfolding before le leOctets pad packed packedIn joined numberIn packedAt rows lookupIn lookup allows numbers within
-    goodText isText portsIn holds distinct defaults fresh isGoodSetup refusal setupFor powerAfter commandOf byRow byProperty byCommand verdict
+    isUtf8 ends goodText isText portsIn holds distinct defaults fresh isGoodSetup refusal setupFor powerAfter commandOf byRow byProperty byCommand verdict
     getWith valueIn conflicts numberTo setNumber powerTo setPower setName setPorts setKind insertPort without removePort perform
     fixedValue numberValue valueOf statusReply replyCommand content successReply replying concluded reached judgedBy judged statusDecision decisionOf
     decide linkOf isSetUp affect settled engine freshBox repliesTo marked
@@ -46,7 +48,7 @@ pub record WorkedLinks (s : Setup) : Type 0 where
 
 pub worked-links : WorkedLinks workedSetup
 unfolding before le leOctets pad packed packedIn joined numberIn packedAt rows lookupIn lookup allows numbers within
-    goodText isText portsIn holds distinct defaults fresh isGoodSetup setupFor powerAfter commandOf byRow byProperty byCommand verdict
+    isUtf8 step leads leadIn isBetween ends goodText isText portsIn holds distinct defaults fresh isGoodSetup setupFor powerAfter commandOf byRow byProperty byCommand verdict
     getWith valueIn conflicts numberTo setNumber powerTo setPower setKind insertPort perform
     fixedValue numberValue valueOf statusReply replyCommand content successReply replying concluded reached judgedBy judged statusDecision decisionOf
     decide isReset linkOf isSetUp affect settled engine deviceAfter isAnswered repliesOn valuesOn statusOn

@@ -1,25 +1,9 @@
 -- Laws of the letters that are digits.
-use mathlib.Core.Bool.{true, false, and-false}
 use mathlib.Core.Path.{_≡_}
 use Prim.Native.Nat.{ℕ, _+_, _-_, _≤_, _<_}
 use native.Mathlib.Omega.{arith}
-use borrow.Author.Tests.{le-leb, lt-leb}
-use lib.Dec.{leb}
-use Rattle.octets.proofs.LawsTests.{both}
-use Rattle.lines.specs.Reader.{isBetween, digitOf}
-
-module _ (low high c : ℕ) where
-  inside : low ≤ c → c ≤ high → isBetween low high c ≡ true
-  unfolding isBetween
-  inside h k = both (leb low c) (leb c high) (le-leb _ _ h) (le-leb _ _ k)
-
-  below : c < low → isBetween low high c ≡ false
-  unfolding isBetween
-  below h = rw (lt-leb _ _ h)
-
-  above : high < c → isBetween low high c ≡ false
-  unfolding isBetween
-  above h = simp (lt-leb c high h, and-false)
+use Rattle.octets.proofs.LawsRanges.{inside, below, above}
+use Rattle.lines.specs.Reader.{digitOf}
 
 -- ---- the value of a letter, from 0 up
 

@@ -14,7 +14,8 @@ use Rattle.lines.specs.declared.reader.Stage.the-variants.{Start, Half, 
 use Rattle.lines.specs.declared.reader.LineReader.{LineReader}
 use Rattle.lines.specs.Line.{digits}
 use Rattle.lines.specs.Spelling.{space, capitals, Digit, lower, upper, Two}
-use Rattle.lines.specs.Reader.{isBetween, digitOf, at, Keeping, keeping, withOctet, first, second, stepFrom, step}
+use Rattle.octets.specs.Ranges.{isBetween}
+use Rattle.lines.specs.Reader.{digitOf, at, Keeping, keeping, withOctet, first, second, stepFrom, step}
 use Rattle.lines.proofs.LawsDigits.{behind-small}
 
 -- ---- digits

@@ -1,9 +1,10 @@
 -- The reader of a line of hex, letter by letter. What a line is to spell is told apart from it, in Spelling.
-use mathlib.Core.Bool.{Bool, true, false, cond, _&&_}
+use mathlib.Core.Bool.{true, false, cond}
 use mathlib.Core.List.{List, foldl}
 use Prim.Native.Nat.{ℕ, _+_, _-_, _*_, _%_}
-use lib.Dec.{ltb, leb, eqb}
+use lib.Dec.{ltb, eqb}
 use lib.ListN.{length, set}
+use Rattle.octets.specs.Ranges.{isBetween}
 use Rattle.lines.specs.declared.reader.Stage.{Stage}
 use Rattle.lines.specs.declared.reader.Stage.the-variants.{Start, Half, Octet, Space, Wrong}
 use Rattle.lines.specs.declared.reader.LineReader.{LineReader}
@@ -16,9 +17,6 @@ use Rattle.lines.specs.Spelling.{space}
 -- what is no digit has this value
 abbrev pub noDigit : ℕ
 noDigit = 16
-
-unfoldable pub isBetween : ℕ → ℕ → ℕ → Bool
-isBetween low high c = leb low c && leb c high
 
 -- 0 to 9, a to f and A to F
 unfoldable pub digitOf : ℕ → ℕ

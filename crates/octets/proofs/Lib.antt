@@ -1,4 +1,5 @@
 pub mod LawsTests
+pub mod LawsRanges
 pub mod LawsLists
 pub mod LawsFinding
 pub mod LawsScanning

@@ -4,5 +4,6 @@ pub mod LittleEndian
 pub mod Writing
 pub mod Finding
 pub mod Scanning
+pub mod Ranges
 pub mod Padding
 pub mod Body

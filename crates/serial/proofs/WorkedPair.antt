@@ -12,6 +12,8 @@ use Rattle.octets.specs.LittleEndian.{le, leAt}
 use Rattle.octets.specs.Padding.{pad}
 use Rattle.frame.specs.Kind.{isFlag, isEscape, isSkipped}
 use Rattle.frame.specs.Frame.{frame}
+use Rattle.octets.specs.Ranges.{isBetween}
+use Rattle.utf8.specs.Utf8.{leads, leadIn, step, ends, isUtf8}
 use Rattle.frame.specs.Fcs.{fcsBit, fcsBits, fcsOctet, fcsFrom, fcs}
 use Rattle.hdlc.specs.Fate.{given}
 use Rattle.hdlc.specs.Reader.{bodyOf, checkOf, maxGathered}
@@ -87,7 +89,7 @@ expected =
 pub both-merged : (mergedIn workedSetup 1 noisy ≡ expected) × (mergedIn workedSetup 1 clean ≡ expected)
 unfolding before le leAt pad isFlag isEscape isSkipped fcsBit fcsBits fcsOctet fcsFrom fcs bodyOf checkOf given
     kept meant pends gathered cutEscape contentFate pieceFate ended grown finished unfinished fatesOf pieceFateAt call callReads
-    goodText isText fresh isGoodSetup setupFor linkOf isSetUp isReset isPower effectOf effectItem itemOf merged
+    isUtf8 step leads leadIn isBetween ends goodText isText fresh isGoodSetup setupFor linkOf isSetUp isReset isPower effectOf effectItem itemOf merged
     isRefused readBy laidFrom laid checkedOf checkedIn bodies mergedIn
 both-merged = (refl, refl)
 

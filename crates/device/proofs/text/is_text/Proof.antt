@@ -13,4 +13,6 @@ is-text-spec =
     (tie.spec
     (λ c. rw (lt-leb _ _ (c .if1 .taken)))
     (λ c κs. search needs)
-    (λ c. rw (le-leb _ _ (c .before .if1 .left), c .find-octet .ensures, zero-add, goodText)))
+    (λ c κs. search needs)
+    (λ c. let u = c .before .before in rw (le-leb _ _ (u .before .if1 .left), ← (u .is-utf8 .ensures), c .before .if2 .taken, c .find-octet .ensures, zero-add))
+    (λ c. rw (le-leb _ _ (c .before .before .if1 .left), ← (c .before .is-utf8 .ensures), c .if2 .left)))

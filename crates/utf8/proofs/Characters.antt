@@ -1,0 +1,104 @@
+-- PROMISE: what is well-formed by section 4 of RFC 3629 is what section 3 encodes: the octets of scalar values, and of one list of them only.
+use mathlib.Core.Bool.{true}
+use mathlib.Core.List.{List, [], _∷_, _++_, foldl}
+use mathlib.Core.Path.{_≡_, refl, sym, ap, _∙_}
+use Prim.Native.Nat.{ℕ, zero, suc}
+use native.Mathlib.Omega.{arith}
+use lib.ListN.{length, length-append}
+use Rattle.octets.specs.Ranges.{isBetween}
+use Rattle.octets.proofs.LawsTests.{by-test}
+use Rattle.octets.proofs.LawsRanges.{inside-told}
+use Rattle.utf8.specs.declared.Stage.{Stage}
+use Rattle.utf8.specs.declared.Stage.the-variants.{Between, Expecting, Wrong}
+use Rattle.utf8.specs.Utf8.{tails, leads, leadIn, step, ends, isUtf8}
+use Rattle.utf8.specs.Encoding.{isScalar, Scalars, octetsOf, encoded, Decoded}
+use Rattle.utf8.proofs.LawsCompletion.{Completes, none-completes, next-completes, step-inside, step-outside, completed, between-none, never-ends}
+use Rattle.utf8.proofs.LawsEncoding.{Makes, some-octet, begins, character, same-number}
+
+-- ---- the octets of scalar values are well-formed
+
+one-more : (c : ℕ) (xs : List ℕ) → isScalar c ≡ true → foldl step Between (octetsOf c ++ xs) ≡ foldl step Between xs
+unfolding step
+one-more c xs h =
+    let b = begins c h in
+    ap (λ ys. foldl step Between (ys ++ xs)) (b .is) ∙ completed (b .rest) xs (leadIn leads (b .octet)) (b .completes)
+
+encoded-ends : (cs : List ℕ) → Scalars cs → foldl step Between (encoded cs) ≡ Between
+encoded-ends [] h = refl
+encoded-ends (c ∷ cs) h = one-more c (encoded cs) (h zero) ∙ encoded-ends cs (λ k. h (suc k))
+
+pub encodes : (cs : List ℕ) → Scalars cs → isUtf8 (encoded cs) ≡ true
+unfolding isUtf8 ends
+encodes cs h = ap ends (encoded-ends cs h)
+
+-- ---- whatever is well-formed is the octets of scalar values
+
+no-scalars : Scalars []
+unfolding isScalar isBetween
+no-scalars k = refl
+
+scalar-front : (c : ℕ) (cs : List ℕ) → isScalar c ≡ true → Scalars cs → Scalars (c ∷ cs)
+scalar-front c cs h k zero = h
+scalar-front c cs h k (suc n) = k n
+
+-- the same from any stage: what completes its character, and then whole ones
+record Rest (s : Stage) (xs : List ℕ) : Type 0 where
+  front : List ℕ
+  characters : List ℕ
+  completes : Completes front s
+  scalars : Scalars characters
+  octets : xs ≡ front ++ encoded characters
+
+rest-first : (x : ℕ) (xs : List ℕ) → Rest (leadIn leads x) xs → Rest Between (x ∷ xs)
+unfolding Makes ends
+rest-first x xs r =
+    let c = character x (r .front) (r .completes) in
+    record {
+      front = [];
+      characters = c .number ∷ r .characters;
+      completes = none-completes Between refl;
+      scalars = scalar-front (c .number) (r .characters) (c .scalar) (r .scalars);
+      octets = ap (λ ys. x ∷ ys) (r .octets) ∙ ap (λ ys. ys ++ encoded (r .characters)) (sym (c .octets));
+    }
+
+rest-inside : (low high n x : ℕ) (xs : List ℕ) → isBetween low high x ≡ true → Rest (tails n) xs → Rest (Expecting low high n) (x ∷ xs)
+rest-inside low high n x xs t r =
+    record {
+      front = x ∷ r .front;
+      characters = r .characters;
+      completes = next-completes low high n x (r .front) (inside-told low high x t) (r .completes);
+      scalars = r .scalars;
+      octets = ap (λ ys. x ∷ ys) (r .octets);
+    }
+
+rest : (xs : List ℕ) (s : Stage) → ends (foldl step s xs) ≡ true → Rest s xs
+unfolding step
+rest [] s e = record { front = []; characters = []; completes = none-completes s e; scalars = no-scalars; octets = refl }
+rest (x ∷ xs) Between e = rest-first x xs (rest xs (leadIn leads x) e)
+rest (x ∷ xs) (Expecting low high n) e =
+    by-test (isBetween low high x)
+    (λ t. rest-inside low high n x xs t (rest xs (tails n) (sym (ap (λ s. ends (foldl step s xs)) (step-inside low high n x t)) ∙ e)))
+    (λ t. never-ends xs (sym (ap (λ s. ends (foldl step s xs)) (step-outside low high n x t)) ∙ e))
+rest (x ∷ xs) Wrong e = never-ends xs e
+
+pub decodes : (xs : List ℕ) → isUtf8 xs ≡ true → Decoded xs
+unfolding isUtf8
+decodes xs e =
+    let r = rest xs Between e in
+    let o = r .octets ∙ ap (λ ys. ys ++ encoded (r .characters)) (between-none (r .front) (r .completes)) in
+    record { characters = r .characters; scalars = r .scalars; octets = o }
+
+-- ---- and of one list of numbers only
+
+nonempty : {P : Type 0} (c : ℕ) (xs : List ℕ) → [] ≡ octetsOf c ++ xs → P
+nonempty c xs e = absurd (omega (arith, ap length e, length-append (octetsOf c) xs, some-octet c))
+
+pub one-list : (cs ds : List ℕ) → encoded cs ≡ encoded ds → cs ≡ ds
+one-list [] [] e = refl
+one-list [] (d ∷ ds) e = nonempty d (encoded ds) e
+one-list (c ∷ cs) [] e = nonempty c (encoded cs) (sym e)
+one-list (c ∷ cs) (d ∷ ds) e =
+    let s = same-number c d (encoded cs) (encoded ds) e in
+    let n = s .0 in
+    let r = one-list cs ds (s .1) in
+    cc

@@ -1,0 +1,4 @@
+pub mod LawsLeads
+pub mod LawsCompletion
+pub mod LawsEncoding
+pub mod Characters

@@ -1,0 +1,43 @@
+-- Characters as octets: RFC 3629, section 3.
+use mathlib.Core.Bool.{Bool, true, cond, _||_}
+use mathlib.Core.List.{List, [], _∷_}
+use mathlib.Core.Path.{_≡_}
+use Prim.Native.Nat.{ℕ, zero, suc, _+_, _/_, _%_}
+use lib.Dec.{leb}
+use lib.ListN.{getD}
+use Rattle.octets.specs.Ranges.{isBetween}
+use Rattle.octets.specs.Runs.{each}
+
+-- a scalar value, the number of a character: 0 to 10FFFF without D800 to DFFF
+unfoldable pub isScalar : ℕ → Bool
+isScalar c = isBetween 0x0000 0xD7FF c || isBetween 0xE000 0x10FFFF c
+
+abbrev pub Scalars : List ℕ → Type 0
+Scalars cs = (k : ℕ) → isScalar (getD cs k 0) ≡ true
+
+-- 10xxxxxx: an octet with the six low bits of a number
+abbrev pub sixBits : ℕ → ℕ
+sixBits n = 0x80 + n % 64
+
+-- a number's bits filled in from the lowest on: so many octets of six, the last one first, and what is left behind the first octet's leading
+-- bits; then the octets that follow
+abbrev pub filled : ℕ → ℕ → ℕ → List ℕ → List ℕ
+filled bits zero c xs = (bits + c) ∷ xs
+filled bits (suc n) c xs = filled bits n (c / 64) (sixBits c ∷ xs)
+
+-- the table's four ranges of numbers
+unfoldable pub octetsOf : ℕ → List ℕ
+octetsOf c =
+    cond (leb c 0x7F) (c ∷ [])  -- 0xxxxxxx
+    (cond (leb c 0x7FF) (filled 0xC0 1 c [])  -- 110xxxxx 10xxxxxx
+    (cond (leb c 0xFFFF) (filled 0xE0 2 c [])  -- 1110xxxx 10xxxxxx 10xxxxxx
+    (filled 0xF0 3 c [])))  -- 11110xxx 10xxxxxx 10xxxxxx 10xxxxxx
+
+abbrev pub encoded : List ℕ → List ℕ
+encoded cs = each octetsOf cs
+
+-- the characters that octets stand for
+pub record Decoded (xs : List ℕ) : Type 0 where
+  pub characters : List ℕ
+  pub scalars : Scalars characters
+  pub octets : xs ≡ encoded characters
