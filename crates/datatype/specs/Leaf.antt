@@ -29,7 +29,7 @@ unfoldable pub numberSpan : ℕ → Packed → Span
 numberSpan from packed.Unreadable = Misfit
 numberSpan from (packed.Number n next) = At from (next - from) next
 
--- text of so many octets up to its first zero, which must be UTF-8 (02, T-01); "the zero of U [isn't] part of a leaf"
+-- so many octets of text, which are UTF-8 (02, T-01), and behind them a zero; "the zero of U [isn't] part of a leaf"
 unfoldable pub textAt : ℕ → List ℕ → ℕ → Span
 textAt size part from =
     cond (ltb (from + size) (length part))

@@ -24,7 +24,8 @@ numberOf BadSetup = 14
 abbrev pub reported : Configured → Report
 reported c = record { number = numberOf (c .answer); device = c .device }
 
--- "Links 1 to 4 .., vendor 0 to 2,097,151, version text 0 to 32 octets without a zero, hardware address of 8 octets"
+-- "Links 1 to 4 .., vendor 0 to 2,097,151, version text 0 to 32 octets without a zero, hardware address of 8 octets"; the text is UTF-8
+-- (02, T-01)
 unfoldable pub isGoodSetup : ℕ → ℕ → List ℕ → List ℕ → Bool
 isGoodSetup links vendor text address =
     leb 1 links && (leb links maxLinks && (leb vendor maxVendor && (isText maxText text && eqb (length address) addressSize)))

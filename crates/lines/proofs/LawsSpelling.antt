@@ -6,6 +6,7 @@ use native.Mathlib.Omega.{arith}
 use borrow.Author.Tests.{ltb-true, ltb-false, lt-ltb, eqb-true, ne-eqb}
 use lib.Dec.{ltb, eqb}
 use lib.ListN.{getD}
+use Rattle.octets.specs.Ranges.{isBetween}
 use Rattle.octets.specs.Scanning.{allFrom, allBelow}
 use Rattle.octets.proofs.LawsScanning.{all-at}
 use Rattle.octets.proofs.LawsTests.{by-test}
@@ -14,7 +15,6 @@ use Rattle.lines.specs.declared.reader.Stage.the-variants.{Start, Half, 
 use Rattle.lines.specs.declared.reader.LineReader.{LineReader}
 use Rattle.lines.specs.Line.{digits}
 use Rattle.lines.specs.Spelling.{space, capitals, Digit, lower, upper, Two}
-use Rattle.octets.specs.Ranges.{isBetween}
 use Rattle.lines.specs.Reader.{digitOf, at, Keeping, keeping, withOctet, first, second, stepFrom, step}
 use Rattle.lines.proofs.LawsDigits.{behind-small}
 

@@ -49,7 +49,7 @@ setPower l p = powerTo l (valueIn powerState p)
 
 -- ---- the name and the ports
 
--- "the first zero ends it, and it must be last; over 16 is 3"
+-- "the first zero ends it, and it must be last; over 16 is 3"; not UTF-8 is 3 too, "in the length's step" (02, T-01)
 unfoldable pub setName : Link → List ℕ → Performed
 setName l p =
     cond (eqb (suc (before 0 p)) (length p))

@@ -3,18 +3,17 @@ use mathlib.Core.Bool.{true, false, and-false}
 use mathlib.Core.Path.{_≡_}
 use Prim.Native.Nat.{ℕ, _≤_, _<_}
 use borrow.Author.Tests.{le-leb, lt-leb, leb-true}
-use lib.Dec.{leb}
 use Rattle.octets.specs.Ranges.{isBetween}
-use Rattle.octets.proofs.LawsTests.{and-l, and-r, both}
+use Rattle.octets.proofs.LawsTests.{both-told}
 
 module _ (low high x : ℕ) where
   pub inside : low ≤ x → x ≤ high → isBetween low high x ≡ true
   unfolding isBetween
-  inside h k = both (leb low x) (leb x high) (le-leb _ _ h) (le-leb _ _ k)
+  inside h k = rw (le-leb _ _ h, le-leb _ _ k)
 
   pub inside-told : isBetween low high x ≡ true → (low ≤ x) × (x ≤ high)
   unfolding isBetween
-  inside-told t = (leb-true low x (and-l (leb low x) (leb x high) t), leb-true x high (and-r (leb low x) (leb x high) t))
+  inside-told t = let b = both-told t in (leb-true low x (b .0), leb-true x high (b .1))
 
   pub below : x < low → isBetween low high x ≡ false
   unfolding isBetween

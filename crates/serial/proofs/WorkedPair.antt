@@ -10,10 +10,10 @@ use lib.ListN.{length, replicate}
 use Rattle.octets.specs.Finding.{before}
 use Rattle.octets.specs.LittleEndian.{le, leAt}
 use Rattle.octets.specs.Padding.{pad}
-use Rattle.frame.specs.Kind.{isFlag, isEscape, isSkipped}
-use Rattle.frame.specs.Frame.{frame}
 use Rattle.octets.specs.Ranges.{isBetween}
 use Rattle.utf8.specs.Utf8.{leads, leadIn, step, ends, isUtf8}
+use Rattle.frame.specs.Kind.{isFlag, isEscape, isSkipped}
+use Rattle.frame.specs.Frame.{frame}
 use Rattle.frame.specs.Fcs.{fcsBit, fcsBits, fcsOctet, fcsFrom, fcs}
 use Rattle.hdlc.specs.Fate.{given}
 use Rattle.hdlc.specs.Reader.{bodyOf, checkOf, maxGathered}

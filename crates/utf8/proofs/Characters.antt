@@ -1,4 +1,5 @@
 -- PROMISE: what is well-formed by section 4 of RFC 3629 is what section 3 encodes: the octets of scalar values, and of one list of them only.
+-- And what section 3 encodes is worked out for the characters of section 7.
 use mathlib.Core.Bool.{true}
 use mathlib.Core.List.{List, [], _∷_, _++_, foldl}
 use mathlib.Core.Path.{_≡_, refl, sym, ap, _∙_}
@@ -102,3 +103,12 @@ one-list (c ∷ cs) (d ∷ ds) e =
     let n = s .0 in
     let r = one-list cs ds (s .1) in
     cc
+
+-- ---- the four examples of section 7; the last begins with a byte order mark
+
+pub worked-examples : (encoded (0x0041 ∷ 0x2262 ∷ 0x0391 ∷ 0x002E ∷ []) ≡ 0x41 ∷ 0xE2 ∷ 0x89 ∷ 0xA2 ∷ 0xCE ∷ 0x91 ∷ 0x2E ∷ [])
+    × (encoded (0xD55C ∷ 0xAD6D ∷ 0xC5B4 ∷ []) ≡ 0xED ∷ 0x95 ∷ 0x9C ∷ 0xEA ∷ 0xB5 ∷ 0xAD ∷ 0xEC ∷ 0x96 ∷ 0xB4 ∷ [])
+    × (encoded (0x65E5 ∷ 0x672C ∷ 0x8A9E ∷ []) ≡ 0xE6 ∷ 0x97 ∷ 0xA5 ∷ 0xE6 ∷ 0x9C ∷ 0xAC ∷ 0xE8 ∷ 0xAA ∷ 0x9E ∷ [])
+    × (encoded (0xFEFF ∷ 0x233B4 ∷ []) ≡ 0xEF ∷ 0xBB ∷ 0xBF ∷ 0xF0 ∷ 0xA3 ∷ 0x8E ∷ 0xB4 ∷ [])
+unfolding octetsOf
+worked-examples = (refl, refl, refl, refl)

@@ -1,13 +1,13 @@
 -- A character of the grammar is the octets of a scalar value.
 use mathlib.Core.Bool.{true, cond}
-use mathlib.Core.List.{List, [], _∷_, _++_, append-nil}
+use mathlib.Core.List.{List, [], _∷_, _++_, append-nil, head-eq-of-cons-eq, tail-eq-of-cons-eq}
 use mathlib.Core.Path.{_≡_, refl, sym, ap, _∙_}
 use Prim.Native.Nat.{ℕ, zero, suc, _+_, _-_, _*_, _/_, _≤_, _<_}
 use native.Mathlib.Omega.{arith}
 use native.Mathlib.Nat.{zero-add}
 use borrow.Author.Tests.{le-leb, lt-leb, leb-true, leb-false}
 use lib.Dec.{leb}
-use lib.ListN.{length, getD, drop}
+use lib.ListN.{length, getD}
 use Rattle.octets.specs.Ranges.{isBetween}
 use Rattle.octets.proofs.LawsTests.{by-test, chosen, impossible}
 use Rattle.octets.proofs.LawsRanges.{inside, inside-told, above}
@@ -230,15 +230,13 @@ module _ (c : ℕ) where
 
 -- ---- octets tell their number, and where they end
 
-same-one : (x y : ℕ) (xs ys : List ℕ) → x ∷ xs ≡ y ∷ ys → (x ≡ y) × (xs ≡ ys)
-same-one x y xs ys e = (ap (λ l. getD l 0 0) e, ap (drop 1) e)
-
 same-filled : (bits n c d : ℕ) (xs ys : List ℕ) → filled bits n c xs ≡ filled bits n d ys → (c ≡ d) × (xs ≡ ys)
-same-filled bits zero c d xs ys e = let s = same-one (bits + c) (bits + d) xs ys e in (omega (arith, s .0), s .1)
+same-filled bits zero c d xs ys e = let s : bits + c ≡ bits + d = head-eq-of-cons-eq e in (omega arith, tail-eq-of-cons-eq e)
 same-filled bits (suc n) c d xs ys e =
     let r = same-filled bits n (c / 64) (d / 64) (sixBits c ∷ xs) (sixBits d ∷ ys) e in
-    let s = same-one (sixBits c) (sixBits d) xs ys (r .1) in
-    (omega (arith, r .0, s .0), s .1)
+    let q = r .0 in
+    let s : sixBits c ≡ sixBits d = head-eq-of-cons-eq (r .1) in
+    (omega arith, tail-eq-of-cons-eq (r .1))
 
 -- the table's row by the first octet
 unfoldable refilled : ℕ → ℕ → List ℕ → List ℕ
@@ -257,7 +255,7 @@ by-first c xs =
 same-refilled : (x c d : ℕ) (xs ys : List ℕ) → refilled x c xs ≡ refilled x d ys → (c ≡ d) × (xs ≡ ys)
 unfolding refilled
 same-refilled x c d xs ys e =
-    by-test (leb x 0x7F) (λ t. same-one c d xs ys (rw t at e))
+    by-test (leb x 0x7F) (λ t. let o = rw t at e in (head-eq-of-cons-eq o, tail-eq-of-cons-eq o))
     (λ t. by-test (leb x 0xDF) (λ u. same-filled 0xC0 1 c d xs ys (rw (t, u) at e))
     (λ u. by-test (leb x 0xEF) (λ v. same-filled 0xE0 2 c d xs ys (rw (t, u, v) at e)) (λ v. same-filled 0xF0 3 c d xs ys (rw (t, u, v) at e))))
 

@@ -15,7 +15,7 @@ use Rattle.utf8.specs.declared.Stage.the-variants.{Wrong}
 use Rattle.utf8.specs.Utf8.{Lead, lead, leads, leadIn}
 
 -- rows that go upwards, from a number on
-unfoldable pub upwards : ℕ → List Lead → Bool
+unfoldable upwards : ℕ → List Lead → Bool
 upwards low [] = true
 upwards low (r ∷ rs) = leb low (r .from) && (leb (r .from) (r .to) && upwards (suc (r .to)) rs)
 

@@ -19,13 +19,13 @@ Scalars cs = (k : ℕ) → isScalar (getD cs k 0) ≡ true
 abbrev pub sixBits : ℕ → ℕ
 sixBits n = 0x80 + n % 64
 
--- a number's bits filled in from the lowest on: so many octets of six, the last one first, and what is left behind the first octet's leading
--- bits; then the octets that follow
+-- a number's bits, filled in from the lowest on: six in each of so many tails, from the last to the first, and the others in the first octet,
+-- behind its leading bits; then the octets that follow
 abbrev pub filled : ℕ → ℕ → ℕ → List ℕ → List ℕ
 filled bits zero c xs = (bits + c) ∷ xs
 filled bits (suc n) c xs = filled bits n (c / 64) (sixBits c ∷ xs)
 
--- the table's four ranges of numbers
+-- the table's four ranges of numbers; the last ends at 10FFFF, since no scalar value is above
 unfoldable pub octetsOf : ℕ → List ℕ
 octetsOf c =
     cond (leb c 0x7F) (c ∷ [])  -- 0xxxxxxx

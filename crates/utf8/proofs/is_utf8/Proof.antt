@@ -4,11 +4,10 @@ use mathlib.Core.List.{foldl}
 use Prim.Native.Nat.{_+_, _-_, _≤_}
 use native.Mathlib.Omega.{arith}
 use borrow.Author.Needs.{needs}
-use lib.ListN.{length, drop}
+use lib.ListN.{length, drop, drop-of-length-le}
 use Rattle.utf8.specs.Utf8.{step, ends, isUtf8}
 use Rattle.utf8.proofs.is_utf8.Statement.{statement}
 use Rattle.utf8.proofs.is_utf8.Tie as tie
-use lib.ListN.{drop-of-length-le}
 use Rattle.octets.proofs.LawsLists.{drop-next}
 
 abbrev Inv-loop : tie.InvT-loop
