@@ -1,20 +1,22 @@
 -- PROMISE: what is well-formed by section 4 of RFC 3629 is what section 3 encodes: the octets of scalar values, and of one list of them only.
--- And what section 3 encodes is worked out for the characters of section 7.
+-- The number of a character is read back from its octets, and the examples of section 7 are encoded as it says.
 use mathlib.Core.Bool.{true}
 use mathlib.Core.List.{List, [], _∷_, _++_, foldl}
 use mathlib.Core.Path.{_≡_, refl, sym, ap, _∙_}
-use Prim.Native.Nat.{ℕ, zero, suc}
+use Prim.Native.Nat.{ℕ, zero, suc, _+_, _/_}
 use native.Mathlib.Omega.{arith}
-use lib.ListN.{length, length-append}
+use borrow.Author.Tests.{le-leb, lt-leb}
+use lib.ListN.{length, drop, length-append}
+use lib.Seq.{drop-append-seam}
 use Rattle.octets.specs.Ranges.{isBetween}
 use Rattle.octets.proofs.LawsTests.{by-test}
 use Rattle.octets.proofs.LawsRanges.{inside-told}
 use Rattle.utf8.specs.declared.Stage.{Stage}
 use Rattle.utf8.specs.declared.Stage.the-variants.{Between, Expecting, Wrong}
 use Rattle.utf8.specs.Utf8.{tails, leads, leadIn, step, ends, isUtf8}
-use Rattle.utf8.specs.Encoding.{isScalar, Scalars, octetsOf, encoded, Decoded}
+use Rattle.utf8.specs.Encoding.{isScalar, octetsOf, characterAt, Scalars, encoded, Decoded}
 use Rattle.utf8.proofs.LawsCompletion.{Completes, none-completes, next-completes, step-inside, step-outside, completed, between-none, never-ends}
-use Rattle.utf8.proofs.LawsEncoding.{Makes, some-octet, begins, character, same-number}
+use Rattle.utf8.proofs.LawsEncoding.{Makes, by-size, some-octet, begins, character}
 
 -- ---- the octets of scalar values are well-formed
 
@@ -89,19 +91,33 @@ decodes xs e =
     let o = r .octets ∙ ap (λ ys. ys ++ encoded (r .characters)) (between-none (r .front) (r .completes)) in
     record { characters = r .characters; scalars = r .scalars; octets = o }
 
--- ---- and of one list of numbers only
+-- ---- the number of a character is read back, whatever follows it
+
+pub reads-back : (c : ℕ) (xs : List ℕ) → characterAt (octetsOf c ++ xs) ≡ c
+unfolding characterAt
+reads-back c xs =
+    by-size (λ ys. characterAt (ys ++ xs) ≡ c) c (λ h. rw (le-leb c 0x7F h))
+    (λ h k. let x = 0xC0 + c / 64 in rw (lt-leb x 0x7F (omega arith), le-leb x 0xDF (omega arith)) (omega arith))
+    (λ h k. let x = 0xE0 + c / 64 / 64 in rw (lt-leb x 0x7F (omega arith), lt-leb x 0xDF (omega arith), le-leb x 0xEF (omega arith)) (omega arith))
+    (λ h. let x = 0xF0 + c / 64 / 64 / 64 in rw (lt-leb x 0x7F (omega arith), lt-leb x 0xDF (omega arith), lt-leb x 0xEF (omega arith)) (omega arith))
+
+-- ---- so they are those of one list of numbers only
 
 nonempty : {P : Type 0} (c : ℕ) (xs : List ℕ) → [] ≡ octetsOf c ++ xs → P
 nonempty c xs e = absurd (omega (arith, ap length e, length-append (octetsOf c) xs, some-octet c))
+
+same-rest : (c d : ℕ) → c ≡ d → (xs ys : List ℕ) → octetsOf c ++ xs ≡ octetsOf d ++ ys → xs ≡ ys
+same-rest c d n xs ys e =
+    sym (drop-append-seam (octetsOf c) xs) ∙ ap (drop (length (octetsOf c))) e
+    ∙ ap (λ m. drop (length (octetsOf m)) (octetsOf d ++ ys)) n ∙ drop-append-seam (octetsOf d) ys
 
 pub one-list : (cs ds : List ℕ) → encoded cs ≡ encoded ds → cs ≡ ds
 one-list [] [] e = refl
 one-list [] (d ∷ ds) e = nonempty d (encoded ds) e
 one-list (c ∷ cs) [] e = nonempty c (encoded cs) (sym e)
 one-list (c ∷ cs) (d ∷ ds) e =
-    let s = same-number c d (encoded cs) (encoded ds) e in
-    let n = s .0 in
-    let r = one-list cs ds (s .1) in
+    let n : c ≡ d = sym (reads-back c (encoded cs)) ∙ ap characterAt e ∙ reads-back d (encoded ds) in
+    let r = one-list cs ds (same-rest c d n (encoded cs) (encoded ds) e) in
     cc
 
 -- ---- the four examples of section 7; the last begins with a byte order mark

@@ -1,20 +1,20 @@
 -- A character of the grammar is the octets of a scalar value.
 use mathlib.Core.Bool.{true, cond}
-use mathlib.Core.List.{List, [], _∷_, _++_, append-nil, head-eq-of-cons-eq, tail-eq-of-cons-eq}
+use mathlib.Core.List.{List, [], _∷_, _++_, append-nil}
 use mathlib.Core.Path.{_≡_, refl, sym, ap, _∙_}
 use Prim.Native.Nat.{ℕ, zero, suc, _+_, _-_, _*_, _/_, _≤_, _<_}
 use native.Mathlib.Omega.{arith}
 use native.Mathlib.Nat.{zero-add}
 use borrow.Author.Tests.{le-leb, lt-leb, leb-true, leb-false}
 use lib.Dec.{leb}
-use lib.ListN.{length, getD}
+use lib.ListN.{length}
 use Rattle.octets.specs.Ranges.{isBetween}
 use Rattle.octets.proofs.LawsTests.{by-test, chosen, impossible}
 use Rattle.octets.proofs.LawsRanges.{inside, inside-told, above}
 use Rattle.utf8.specs.declared.Stage.{Stage}
 use Rattle.utf8.specs.declared.Stage.the-variants.{Between, Expecting, Wrong}
 use Rattle.utf8.specs.Utf8.{tails, leads, leadIn, ends}
-use Rattle.utf8.specs.Encoding.{isScalar, sixBits, filled, octetsOf}
+use Rattle.utf8.specs.Encoding.{isScalar, sixBits, filled, octetsOf, withTails}
 use Rattle.utf8.proofs.LawsLeads.{in-lead, by-lead, by-none}
 use Rattle.utf8.proofs.LawsCompletion.{Completes, none-completes, next-completes, expected, between-none, wrong-never}
 
@@ -64,7 +64,7 @@ module _ (c : ℕ) where
       (above-surrogates c (omega arith) k, rw (lt-leb _ _ i, lt-leb _ _ j, lt-leb _ _ h))
 
 -- what holds by size holds of all
-by-size : (P : List ℕ → Type 0) (c : ℕ) → (c ≤ 0x7F → P (c ∷ [])) → (0x7F < c → c ≤ 0x7FF → P (filled 0xC0 1 c []))
+pub by-size : (P : List ℕ → Type 0) (c : ℕ) → (c ≤ 0x7F → P (c ∷ [])) → (0x7F < c → c ≤ 0x7FF → P (filled 0xC0 1 c []))
     → (0x7FF < c → c ≤ 0xFFFF → P (filled 0xE0 2 c [])) → (0xFFFF < c → P (filled 0xF0 3 c [])) → P (octetsOf c)
 unfolding octetsOf
 by-size P c one two three four =
@@ -77,12 +77,7 @@ some-octet c = by-size (λ xs. 0 < length xs) c (λ h. omega arith) (λ h k. ome
 
 -- ---- tails, once over their number
 
--- the number whose bits are another's, and behind them those of tails
-abbrev withTails : ℕ → List ℕ → ℕ
-withTails n [] = n
-withTails n (y ∷ ys) = withTails (n * 64 + (y - 0x80)) ys
-
--- the least of these, for so many tails
+-- the least number with these bits and so many tails
 abbrev shifted : ℕ → ℕ → ℕ
 shifted zero n = n
 shifted (suc k) n = shifted k (n * 64)
@@ -227,39 +222,3 @@ module _ (c : ℕ) where
       (λ h k. record { octet = _; rest = _; is = refl; completes = two-complete h k })
       (λ h k. record { octet = _; rest = _; is = refl; completes = three-complete h k s })
       (λ h. record { octet = _; rest = _; is = refl; completes = four-complete h (scalar-most c s) })
-
--- ---- octets tell their number, and where they end
-
-same-filled : (bits n c d : ℕ) (xs ys : List ℕ) → filled bits n c xs ≡ filled bits n d ys → (c ≡ d) × (xs ≡ ys)
-same-filled bits zero c d xs ys e = let s : bits + c ≡ bits + d = head-eq-of-cons-eq e in (omega arith, tail-eq-of-cons-eq e)
-same-filled bits (suc n) c d xs ys e =
-    let r = same-filled bits n (c / 64) (d / 64) (sixBits c ∷ xs) (sixBits d ∷ ys) e in
-    let q = r .0 in
-    let s : sixBits c ≡ sixBits d = head-eq-of-cons-eq (r .1) in
-    (omega arith, tail-eq-of-cons-eq (r .1))
-
--- the table's row by the first octet
-unfoldable refilled : ℕ → ℕ → List ℕ → List ℕ
-refilled x c xs =
-    cond (leb x 0x7F) (c ∷ xs)
-    (cond (leb x 0xDF) (filled 0xC0 1 c xs) (cond (leb x 0xEF) (filled 0xE0 2 c xs) (filled 0xF0 3 c xs)))
-
-by-first : (c : ℕ) (xs : List ℕ) → octetsOf c ++ xs ≡ refilled (getD (octetsOf c ++ xs) 0 0) c xs
-unfolding refilled
-by-first c xs =
-    by-size (λ ys. ys ++ xs ≡ refilled (getD (ys ++ xs) 0 0) c xs) c (λ h. rw (le-leb c 0x7F h))
-    (λ h k. let x = 0xC0 + c / 64 in rw (lt-leb x 0x7F (omega arith), le-leb x 0xDF (omega arith)))
-    (λ h k. let x = 0xE0 + c / 64 / 64 in rw (lt-leb x 0x7F (omega arith), lt-leb x 0xDF (omega arith), le-leb x 0xEF (omega arith)))
-    (λ h. let x = 0xF0 + c / 64 / 64 / 64 in rw (lt-leb x 0x7F (omega arith), lt-leb x 0xDF (omega arith), lt-leb x 0xEF (omega arith)))
-
-same-refilled : (x c d : ℕ) (xs ys : List ℕ) → refilled x c xs ≡ refilled x d ys → (c ≡ d) × (xs ≡ ys)
-unfolding refilled
-same-refilled x c d xs ys e =
-    by-test (leb x 0x7F) (λ t. let o = rw t at e in (head-eq-of-cons-eq o, tail-eq-of-cons-eq o))
-    (λ t. by-test (leb x 0xDF) (λ u. same-filled 0xC0 1 c d xs ys (rw (t, u) at e))
-    (λ u. by-test (leb x 0xEF) (λ v. same-filled 0xE0 2 c d xs ys (rw (t, u, v) at e)) (λ v. same-filled 0xF0 3 c d xs ys (rw (t, u, v) at e))))
-
-pub same-number : (c d : ℕ) (xs ys : List ℕ) → octetsOf c ++ xs ≡ octetsOf d ++ ys → (c ≡ d) × (xs ≡ ys)
-same-number c d xs ys e =
-    let x : getD (octetsOf d ++ ys) 0 0 ≡ getD (octetsOf c ++ xs) 0 0 = ap (λ l. getD l 0 0) (sym e) in
-    same-refilled _ c d xs ys (sym (by-first c xs) ∙ e ∙ by-first d ys ∙ ap (λ o. refilled o d ys) x)
