@@ -1,11 +1,12 @@
--- PROMISE: "A refusal changes only that link's last status. NOOP sets it to 0; other successes leave it." A link that is not set up
--- changes nothing.
+-- PROMISE: "A refusal changes only that link's last status. NOOP sets it to 0; other successes leave it." RESET "puts all links and the
+-- power state to defaults, every last status to 114, and announces 80 06 00 72". A link that is not set up changes nothing.
 use mathlib.Core.Path.{_≡_}
 use mathlib.Core.Bool.{true, false}
-use mathlib.Core.List.{List}
+use mathlib.Core.List.{List, [], _∷_}
 use Prim.Native.Nat.{ℕ}
 use lib.ListN.{set}
 use Rattle.octets.specs.Body.{headerOf}
+use Rattle.device.specs.State.{fresh}
 use Rattle.device.specs.Rules.{settingsRule, linkRule}
 use Rattle.device.specs.declared.state.Link.{Link}
 use Rattle.device.specs.declared.state.Device.{Device}
@@ -13,7 +14,7 @@ use Rattle.device.specs.declared.view.View.{View}
 use Rattle.device.specs.declared.view.Effect.{Effect}
 use Rattle.device.specs.View.{viewOf}
 use Rattle.reply.specs.Reply.{statusReply}
-use Rattle.command.specs.Decision.{withStatus, stopped, noop, success, judged, statusDecision, decisionOf, decide}
+use Rattle.command.specs.Decision.{withStatus, stopped, noop, reset, success, judged, statusDecision, decisionOf, decide}
 use Rattle.command.proofs.LawsJudged.{judged-sound}
 use Rattle.engine.specs.Engine.{linkOf, isSetUp, affect, settled, engine}
 
@@ -31,6 +32,12 @@ module _ (d : Device) (b : List ℕ) (up : isSetUp (d .settings) b ≡ true) whe
       → engine d b ≡ record { device = statusSet d (linkOf b) 0; reply = statusReply (headerOf b) 0 }
   unfolding engine settled decide decisionOf statusDecision affect
   noop-status e = rw (up, e)
+
+  -- "Fresh equals after reset"
+  pub reset-status : judged (viewOf (linkOf b) d) b ≡ reset
+      → engine d b ≡ record { device = fresh (d .settings); reply = 0x80 ∷ 0x06 ∷ 0x00 ∷ 0x72 ∷ [] }
+  unfolding engine settled decide decisionOf affect statusReply
+  reset-status e = rw (up, e)
 
 -- a success other than NOOP and RESET leaves the last status that the link had
 pub success-status : (v : View) (b : List ℕ) (e : Effect) (l : Link) (reply : List ℕ)

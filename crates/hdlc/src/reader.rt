@@ -2,6 +2,7 @@
 use frame::OctetKind;
 use frame::fcs16;
 use frame::kind_of;
+use octets::Body;
 use octets::read_le;
 ghost use mathlib.Core.Bool.{true};
 ghost use mathlib.Core.Path.{_≡_};
@@ -70,7 +71,7 @@ struct Step {
 
 impl Reader {
     // The most octets of a body.
-    pub const MAX_BODY: usize = 1300;
+    pub const MAX_BODY: usize = Body::MAX_OCTETS;
     // The most octets that are gathered: a body and its check.
     pub const MAX_GATHERED: usize = Reader::MAX_BODY + 2;
 

@@ -1,9 +1,11 @@
-// Little-endian numbers of up to four octets, scans of octets, and the shape that every writer of octets has.
+// Little-endian numbers of up to four octets, scans of octets, the shape that every writer of octets has, and the limits of a body.
+mod body;
 mod finding;
 mod little_endian;
 mod scanning;
 mod writing;
 
+pub use body::Body;
 pub use finding::find_octet;
 pub use little_endian::read_le;
 pub use little_endian::write_le;

@@ -2,6 +2,7 @@
 // came out. The kinds of lines stand at the head of the file stdin, and the source of each case beside it; the file stdout holds what must
 // come out, from these sources and from 01's rules, never from this program.
 mod boxes;
+mod classes;
 mod frames;
 mod integers;
 mod receiving;
@@ -68,7 +69,7 @@ fn labelled(words: &[u8]) -> bool {
 fn case(shown: &[u8], line: &[u8]) -> bool {
     let text = after(line, b' ');
     match place(
-        b"fcs read frame packed wire after type setup box receive",
+        b"fcs read frame packed wire after type setup box receive class",
         before(line, b' '),
     ) {
         0 => frames::check(shown, text),
@@ -81,6 +82,7 @@ fn case(shown: &[u8], line: &[u8]) -> bool {
         7 => boxes::set_up(shown, text),
         8 => boxes::boxed(shown, text, false),
         9 => receiving::received(shown, text),
+        10 => classes::sorted(shown, text),
         _ => false,
     }
 }
