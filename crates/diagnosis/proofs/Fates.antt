@@ -15,7 +15,6 @@ use Rattle.request.specs.Verdict.{verdict as verdictOf}
 use Rattle.request.specs.declared.verdict.Verdict.{Verdict}
 use Rattle.request.specs.declared.verdict.Verdict.the-variants.{Refuse, Noop, Reset, Reach}
 use Rattle.engine.specs.Engine.{linkOf}
-use Rattle.diagnosis.specs.declared.classes.Class.the-variants.{BadHeader}
 use Rattle.diagnosis.specs.Classes.{refused, reported, verdictClass, linkClass, headClass, classOf}
 use Rattle.diagnosis.proofs.LawsClasses.{bad-links, over-long, under-two, by-head}
 use Rattle.diagnosis.proofs.SevenOctets.{seven-class}
