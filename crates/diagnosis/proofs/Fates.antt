@@ -1,5 +1,5 @@
 -- PROMISE: "Links outside 1 to 4 are 14, before all else"; then "Bodies under two octets, over 1,300, or with other top bits get fates 2, 4
--- and 6 (4 first)". For any other body the number is 0. Assumes nothing.
+-- and 6 (4 first)". For any other body the number is 0.
 use mathlib.Core.Path.{_≡_, refl, ap, _∙_}
 use mathlib.Core.Bool.{true, false}
 use mathlib.Core.List.{List}

@@ -1,5 +1,5 @@
--- PROMISE: seven octets are enough. Steps 2 to 5 look at no more of a body, and of two bodies of 2 to 1,300 octets that begin with the same
--- seven the class is the same.
+-- PROMISE: seven octets are enough. Steps 2 to 5 come to the same on the first seven as on the whole body, and two bodies of 2 to 1,300
+-- octets with the same first seven have the same class.
 use mathlib.Core.Path.{_≡_, refl, ap, _∙_}
 use mathlib.Core.List.{List, [], _∷_}
 use Prim.Native.Nat.{ℕ, zero, suc, _+_, _≤_}
@@ -14,7 +14,7 @@ use Rattle.packed.specs.declared.Packed.the-variants.{Number, Unreadable}
 use Rattle.packed.proofs.OneSpelling.{place-after, same-octets}
 use Rattle.request.specs.Verdict.{commandOf, byProperty, byCommand, verdict}
 use Rattle.engine.specs.Engine.{linkOf}
-use Rattle.diagnosis.specs.Classes.{linkClass, headClass, classOf}
+use Rattle.diagnosis.specs.Classes.{linkClass, headClass, maxHead, classOf}
 
 -- a part that stands in the first n octets
 part-front : (k at n : ℕ) (b : List ℕ) → at + k ≤ n → take k (drop at (take n b)) ≡ take k (drop at b)
@@ -33,10 +33,10 @@ three-octets b at n next e =
     omega (arith, length-take (at + 3) b)
 
 -- the command ends at the fourth octet or before, and so the property number at the seventh
-by-command : (b : List ℕ) (q : Packed) → packedAt b 1 ≡ q → byCommand (take 7 b) q ≡ byCommand b q
+by-command : (b : List ℕ) (q : Packed) → packedAt b 1 ≡ q → byCommand (take maxHead b) q ≡ byCommand b q
 unfolding byCommand
 by-command b Unreadable e = refl
-by-command b (Number n next) e = rw (number-front b next 7 (omega (arith, three-octets b 1 n next e)))
+by-command b (Number n next) e = rw (number-front b next maxHead (omega (arith, three-octets b 1 n next e)))
 
 pub seven-octets : (b : List ℕ) → verdict (take 7 b) ≡ verdict b
 unfolding verdict

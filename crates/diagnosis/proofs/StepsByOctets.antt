@@ -1,9 +1,9 @@
--- PROMISE: what steps 2 to 5 say of a body is told by its octets.
+-- PROMISE: what steps 2 to 5 come to is what the octets of the body tell, and nothing else.
 use mathlib.Core.Path.{_≡_, refl, ap, _∙_}
 use mathlib.Core.List.{List}
 use Prim.Native.Nat.{ℕ}
 use native.Mathlib.Omega.{arith}
-use borrow.Author.Tests.{eqb-true, eqb-false, ltb-true, ltb-false}
+use borrow.Author.Tests.{eqb-true, eqb-false, ltb-true, ltb-false, ne-eqb, lt-ltb, le-ltb}
 use lib.Dec.{eqb, ltb}
 use Rattle.octets.proofs.LawsTests.{chosen}
 use Rattle.packed.specs.Packed.{packedAt}
@@ -13,21 +13,14 @@ use Rattle.property.specs.Row.{lookup, allows}
 use Rattle.property.specs.declared.row.Found.{Found}
 use Rattle.property.specs.declared.row.Found.the-variants.{At, Unknown}
 use Rattle.request.specs.declared.verdict.Verdict.{Verdict}
-use Rattle.request.specs.declared.verdict.Verdict.the-variants.{Refuse, Noop, Reset, Reach}
 use Rattle.request.specs.Verdict.{commandOf, byRow, byProperty, byCommand, verdict}
-use Rattle.diagnosis.specs.Steps.{Asks, Names, Stops, command-unreadable, command-unknown, property-unreadable, property-unknown, not-allowed}
-
-abbrev Told : List ℕ → Verdict → Type 0
-Told b (Refuse n s) = Stops b n s
-Told b Noop = Asks b 0
-Told b Reset = Asks b 1
-Told b (Reach c r start) = Unit {0}
+use Rattle.diagnosis.specs.Steps.{Names, Told, command-unreadable, command-unknown, is-noop, is-reset, property-unreadable, property-unknown, not-allowed, passes}
 
 by-row : (b : List ℕ) (n at id start : ℕ) (f : Found) → Names b n at → packedAt b at ≡ Number id start → lookup id ≡ f
     → Told b (byRow (commandOf n) start f)
 unfolding byRow
 by-row b n at id start Unknown names e f = property-unknown names e f
-by-row b n at id start (At r) names e f = chosen (Told b) (allows r (commandOf n)) (λ _. tt) (λ t. not-allowed names e f t)
+by-row b n at id start (At r) names e f = chosen (Told b) (allows r (commandOf n)) (λ t. passes names e f t) (λ t. not-allowed names e f t)
 
 by-property : (b : List ℕ) (n at : ℕ) (q : Packed) → Names b n at → packedAt b at ≡ q → Told b (byProperty (commandOf n) q)
 unfolding byProperty
@@ -38,21 +31,32 @@ by-command : (b : List ℕ) (q : Packed) → packedAt b 1 ≡ q → Told b (byCo
 unfolding byCommand
 by-command b Unreadable e = command-unreadable e
 by-command b (Number n at) e =
-    chosen (Told b) (eqb n 0) (λ t. record { after = at; command = e ∙ ap (λ m. Number m at) (eqb-true n 0 t) })
-    (λ t. chosen (Told b) (eqb n 1) (λ u. record { after = at; command = e ∙ ap (λ m. Number m at) (eqb-true n 1 u) })
+    chosen (Told b) (eqb n 0) (λ t. is-noop (e ∙ ap (λ m. Number m at) (eqb-true n 0 t)))
+    (λ t. chosen (Told b) (eqb n 1) (λ u. is-reset (e ∙ ap (λ m. Number m at) (eqb-true n 1 u)))
     (λ u. chosen (Told b) (ltb 5 n) (λ w. command-unknown e (ltb-true 5 n w))
     (λ w. by-property b n at (packedAt b at)
     (record { command = e; least = omega (arith, eqb-false n 0 t, eqb-false n 1 u); most = ltb-false 5 n w }) refl)))
 
-told : (b : List ℕ) → Told b (verdict b)
+pub verdict-told : (b : List ℕ) → Told b (verdict b)
 unfolding verdict
-told b = by-command b (packedAt b 1) refl
+verdict-told b = by-command b (packedAt b 1) refl
 
-pub stops : (b : List ℕ) (n s : ℕ) → verdict b ≡ Refuse n s → Stops b n s
-stops b n s e = rw e at (told b)
+-- ---- and back
 
-pub is-noop : (b : List ℕ) → verdict b ≡ Noop → Asks b 0
-is-noop b e = rw e at (told b)
+-- a command that names a property is judged by it
+named : (b : List ℕ) (n at : ℕ) → Names b n at → verdict b ≡ byProperty (commandOf n) (packedAt b at)
+unfolding verdict byCommand
+named b n at names =
+    rw (names .command, ne-eqb n 0 (λ z. absurd (omega (arith, names .least))), ne-eqb n 1 (λ z. absurd (omega (arith, names .least))), le-ltb 5 n (names .most))
 
-pub is-reset : (b : List ℕ) → verdict b ≡ Reset → Asks b 1
-is-reset b e = rw e at (told b)
+pub told-only : (b : List ℕ) (w : Verdict) → Told b w → verdict b ≡ w
+unfolding verdict byCommand byProperty byRow
+told-only b w (command-unreadable e) = rw e
+told-only b w (command-unknown {n = n} e h) =
+    rw (e, ne-eqb n 0 (λ z. absurd (omega arith)), ne-eqb n 1 (λ z. absurd (omega arith)), lt-ltb 5 n h)
+told-only b w (is-noop e) = rw e
+told-only b w (is-reset e) = rw e
+told-only b w (property-unreadable names e) = rw (named b _ _ names, e)
+told-only b w (property-unknown names e f) = rw (named b _ _ names, e, f)
+told-only b w (not-allowed names e f a) = rw (named b _ _ names, e, f, a)
+told-only b w (passes names e f a) = rw (named b _ _ names, e, f, a)

@@ -1,34 +1,42 @@
--- Steps 2 to 5 of 01, Commands, on a body of a link that is set up: which one stops it, told by its octets.
+-- Steps 1 to 5 of 01, Commands, told by the octets of a body, each clause by itself and in no order.
 use mathlib.Core.Path.{_≡_}
-use mathlib.Core.Bool.{false}
+use mathlib.Core.Bool.{true, false}
 use mathlib.Core.List.{List}
-use Prim.Native.Nat.{ℕ, _≤_, _<_}
+use Prim.Native.Nat.{ℕ, _/_, _%_, _≤_, _<_}
+use Rattle.octets.specs.Body.{headerOf}
 use Rattle.packed.specs.Packed.{packedAt}
 use Rattle.packed.specs.declared.Packed.the-variants.{Number, Unreadable}
 use Rattle.property.specs.Row.{lookup, allows}
 use Rattle.property.specs.declared.row.Row.{Row}
 use Rattle.property.specs.declared.row.Found.the-variants.{At, Unknown}
 use Rattle.request.specs.Verdict.{commandOf}
+use Rattle.request.specs.declared.verdict.Verdict.{Verdict}
+use Rattle.request.specs.declared.verdict.Verdict.the-variants.{Refuse, Noop, Reset, Reach}
 
--- the command is n
-pub record Asks (b : List ℕ) (n : ℕ) : Type 0 where
-  pub after : ℕ
-  pub command : packedAt b 1 ≡ Number n after
+-- step 1: the body's link is one of the "numbers 0 to links-1" (01, Setup); "two bits 10, two bits link, four bits transaction"
+abbrev pub OnSetUp : ℕ → List ℕ → Type 0
+OnSetUp links b = headerOf b / 16 % 4 < links
 
--- the command is n, one of those that name a property, whose number starts at a place
+-- the command is n, one of those that name a property, and the property's number starts at a place
 pub record Names (b : List ℕ) (n at : ℕ) : Type 0 where
   pub command : packedAt b 1 ≡ Number n at
   pub least : 2 ≤ n
   pub most : n ≤ 5
 
--- the step and its status
-pub data Stops (b : List ℕ) : ℕ → ℕ → Type 0 where
-  -- "command unreadable: 9; none of 0 to 5: 5"
-  command-unreadable : packedAt b 1 ≡ Unreadable → Stops b 2 9
-  command-unknown : {n at : ℕ} → packedAt b 1 ≡ Number n at → 5 < n → Stops b 2 5
-  -- "property number unreadable: 9; unknown: 13"
-  property-unreadable : {n at : ℕ} → Names b n at → packedAt b at ≡ Unreadable → Stops b 4 9
-  property-unknown : {n at id start : ℕ} → Names b n at → packedAt b at ≡ Number id start → lookup id ≡ Unknown → Stops b 4 13
-  -- "command not allowed for it: 21"
+-- what steps 2 to 5 come to: a step and a status, NOOP, RESET, or a command, a row and the place of the payload
+pub data Told (b : List ℕ) : Verdict → Type 0 where
+  -- step 2, "command unreadable: 9; none of 0 to 5: 5"
+  command-unreadable : packedAt b 1 ≡ Unreadable → Told b (Refuse 2 9)
+  command-unknown : {n at : ℕ} → packedAt b 1 ≡ Number n at → 5 < n → Told b (Refuse 2 5)
+  -- step 3, "NOOP (0) .. RESET (1) .. Both ignore any payload"
+  is-noop : {at : ℕ} → packedAt b 1 ≡ Number 0 at → Told b Noop
+  is-reset : {at : ℕ} → packedAt b 1 ≡ Number 1 at → Told b Reset
+  -- step 4, "property number unreadable: 9; unknown: 13"
+  property-unreadable : {n at : ℕ} → Names b n at → packedAt b at ≡ Unreadable → Told b (Refuse 4 9)
+  property-unknown : {n at id start : ℕ} → Names b n at → packedAt b at ≡ Number id start → lookup id ≡ Unknown → Told b (Refuse 4 13)
+  -- step 5, "command not allowed for it: 21"
   not-allowed : {n at id start : ℕ} {r : Row} → Names b n at → packedAt b at ≡ Number id start → lookup id ≡ At r
-      → allows r (commandOf n) ≡ false → Stops b 5 21
+      → allows r (commandOf n) ≡ false → Told b (Refuse 5 21)
+  -- none of them
+  passes : {n at id start : ℕ} {r : Row} → Names b n at → packedAt b at ≡ Number id start → lookup id ≡ At r
+      → allows r (commandOf n) ≡ true → Told b (Reach (commandOf n) r start)

@@ -1,4 +1,4 @@
-// What a body comes to, told without a box (02).
+// How far a body gets, told without carrying it out.
 mod classes;
 
 pub use classes::Class;

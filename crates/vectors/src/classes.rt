@@ -35,6 +35,20 @@ fn is_sorted(text: &[u8], links: &[u8]) -> bool {
 
 fn tell(class: Class) {
     show::number(b" = ", class.number() as usize);
+    name(class);
     show::number(b", step ", class.step() as usize);
     show::number(b", status ", class.status() as usize);
+}
+
+fn name(class: Class) {
+    match class {
+        Class::BadLinks => show::text(b" bad links"),
+        Class::TooLong => show::text(b" too long"),
+        Class::Short => show::text(b" short"),
+        Class::BadHeader => show::text(b" bad header"),
+        Class::Stopped(_, _) => show::text(b" stopped"),
+        Class::Noop => show::text(b" NOOP"),
+        Class::Reset => show::text(b" RESET"),
+        Class::Reaches => show::text(b" reaches"),
+    }
 }

@@ -23,10 +23,10 @@ pub classify-spec : {M : Type 1} → statement M
 classify-spec =
     tie.close
     (tie.spec
-    (λ c. sym (bad-links _ _ (below _ _ _ (c .if1 .taken))))
-    (λ c. sym (bad-links _ _ (above _ _ _ (c .if2 .taken))))
+    (λ c. sym (bad-links _ _ (below 1 4 _ (omega (arith, c .if1 .taken)))))
+    (λ c. sym (bad-links _ _ (above 1 4 _ (omega (arith, c .if2 .taken)))))
     (λ c. sym (over-long _ _ (c .before .before .if1 .left) (c .before .if2 .left) (c .if3 .taken)))
-    (λ c. let i = c .before .before in sym (under-two _ _ (i .before .if1 .left) (i .if2 .left) (c .if4 .taken)))
+    (λ c. let i = c .before .before in sym (under-two _ _ (i .before .if1 .left) (i .if2 .left) (omega (arith, c .if4 .taken))))
     (λ c κs. search needs)
     (λ c. let b = c .before .before in let i = b .before .before in
     rw (by-head _ _ (i .before .if1 .left) (i .if2 .left) (b .if4 .left, b .before .if3 .left), take-all maxHead (body (i .before .before .before)) (omega arith))
