@@ -1,7 +1,7 @@
 -- PROMISE: "The answer equals the full engine's, for every body and state that keeps its rules." For the number of links of a box that keeps
 -- its rules, and for every body that reaches the engine, each class and its report say what the engine does with the body on this box.
 use mathlib.Core.Path.{_≡_, refl}
-use mathlib.Core.Bool.{true, false}
+use mathlib.Core.Bool.{true}
 use mathlib.Core.List.{List, [], _∷_}
 use Prim.Native.Nat.{ℕ}
 use native.Mathlib.Omega.{arith}

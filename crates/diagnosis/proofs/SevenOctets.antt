@@ -1,6 +1,6 @@
 -- PROMISE: seven octets are enough. Steps 2 to 5 come to the same on the first seven as on the whole body, and two bodies of 2 to 1,300
 -- octets with the same first seven have the same class.
-use mathlib.Core.Path.{_≡_, refl, ap, _∙_}
+use mathlib.Core.Path.{_≡_, refl, _∙_}
 use mathlib.Core.List.{List, [], _∷_}
 use Prim.Native.Nat.{ℕ, zero, suc, _+_, _≤_}
 use native.Mathlib.Omega.{arith}
@@ -12,7 +12,7 @@ use Rattle.packed.specs.Packed.{packedAt}
 use Rattle.packed.specs.declared.Packed.{Packed}
 use Rattle.packed.specs.declared.Packed.the-variants.{Number, Unreadable}
 use Rattle.packed.proofs.OneSpelling.{place-after, same-octets}
-use Rattle.request.specs.Verdict.{commandOf, byProperty, byCommand, verdict}
+use Rattle.request.specs.Verdict.{byCommand, verdict}
 use Rattle.engine.specs.Engine.{linkOf}
 use Rattle.diagnosis.specs.Classes.{linkClass, headClass, maxHead, classOf}
 

@@ -24,6 +24,7 @@ pub fn sorted(shown: &[u8], text: &[u8]) -> bool {
     false
 }
 
+// Whether a number of links stands before a colon, and octets behind it.
 fn is_sorted(text: &[u8], links: &[u8]) -> bool {
     if pieces(text, b':') == 2 {
         if is_number(links, usize::MAX) {
