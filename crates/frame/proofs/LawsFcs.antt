@@ -1,4 +1,4 @@
--- Laws of the frame check: its register as the code's loops go, and that the check fits its two octets.
+-- Laws of the frame check: its register as the code's loop goes, and that the check fits its two octets.
 use mathlib.Core.Path.{_≡_, ap}
 use mathlib.Core.List.{List, [], _∷_}
 use Prim.Native.Nat.{ℕ, zero, suc, _+_, _/_, _%_, _<_, _≤_}
@@ -10,14 +10,6 @@ use Rattle.octets.specs.Octets.{Octets}
 use Rattle.octets.proofs.LawsLists.{drop-next}
 use Rattle.octets.proofs.LawsTests.{by-test}
 use Rattle.frame.specs.Fcs.{fcsBit, fcsBits, fcsOctet, fcsFrom, fcs}
-
-pub bits-next : (m n r : ℕ) → m ≡ suc n → fcsBits m r ≡ fcsBits n (fcsBit r)
-unfolding fcsBits
-bits-next m n r e = ap (λ k. fcsBits k r) e
-
-pub bits-done : (m r : ℕ) → m ≡ 0 → fcsBits m r ≡ r
-unfolding fcsBits
-bits-done m r e = ap (λ k. fcsBits k r) e
 
 pub from-next : (r : ℕ) (xs : List ℕ) (i : ℕ) → i < length xs
     → fcsFrom r (drop i xs) ≡ fcsFrom (fcsOctet r (getD xs i 0)) (drop (i + 1) xs)

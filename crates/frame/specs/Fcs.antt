@@ -1,7 +1,7 @@
 -- The 16-bit frame check sequence of RFC 1662, section C.1, bit by bit (01, Octets on the wire: "start all ones, low bit first,
 -- complement sent").
 use mathlib.Core.Bool.{cond}
-use mathlib.Core.List.{List, foldl}
+use mathlib.Core.List.{List, [], _∷_, foldl}
 use Prim.Native.Nat.{ℕ, zero, suc, _/_, _%_}
 use lib.Dec.{eqb}
 use lib.Bits.{bitXor}
@@ -17,6 +17,14 @@ fcsBits (suc n) r = fcsBits n (fcsBit r)
 -- one octet: eight bits, the lowest first
 unfoldable pub fcsOctet : ℕ → ℕ → ℕ
 fcsOctet r b = fcsBits 8 (bitXor r b)
+
+-- what eight bits leave of so many octets, from x on; and of each octet from 0 to 255, the table of section C.2
+unfoldable pub fcsEntries : ℕ → ℕ → List ℕ
+fcsEntries x zero = []
+fcsEntries x (suc n) = fcsBits 8 x ∷ fcsEntries (suc x) n
+
+unfoldable pub fcsTable : List ℕ
+fcsTable = fcsEntries 0 256
 
 -- the register after octets
 unfoldable pub fcsFrom : ℕ → List ℕ → ℕ
