@@ -1,5 +1,5 @@
--- PROMISE: one lookup is RFC 1662's eight bit steps. The bits that go out act on the rest by the polynomial alone, so the high octet of
--- the register only moves down, and what the low one leaves stands in the table.
+-- PROMISE: one lookup is RFC 1662's eight bit steps. Whether a step brings the polynomial in is settled by the low octet alone, so the
+-- high one moves down and meets what the low one leaves, which stands in the table.
 use mathlib.Core.Path.{_≡_, sym, ap, _∙_}
 use Prim.Native.Nat.{ℕ, zero, suc, _+_, _*_, _/_, _%_, _^_, _<_}
 use native.Mathlib.Omega.{arith}
@@ -13,26 +13,29 @@ use Rattle.octets.proofs.LawsTests.{by-test}
 use Rattle.frame.specs.Fcs.{fcsBit, fcsBits, fcsOctet, fcsEntries, fcsTable}
 use Rattle.frame.proofs.LawsXor.{xor-assoc}
 
--- ---- so many bits, of which the register's low ones go out
+-- ---- n bits go out of a number
 
--- the polynomial in two parts, above the n low bits and in them
+abbrev polynomial : ℕ
+polynomial = 0x8408
+
+-- its two parts, above the n low bits and in them
 abbrev high : ℕ → ℕ
-high n = 0x8408 / 2 ^ n
+high n = polynomial / 2 ^ n
 
 abbrev low : ℕ → ℕ
-low n = 0x8408 % 2 ^ n
+low n = polynomial % 2 ^ n
 
 low-fits : (n : ℕ) → low n < 2 ^ n
-low-fits n = mod-lt 0x8408 (pow-pos n)
+low-fits n = mod-lt polynomial (pow-pos n)
 
-joined : (n h l : ℕ) → l < 2 ^ n → bitXor (h * 2 ^ n + l) 0x8408 ≡ bitXor h (high n) * 2 ^ n + bitXor l (low n)
-joined n h l fits = ap (bitXor (h * 2 ^ n + l)) (sym (split 0x8408 n)) ∙ xor-block n h (high n) l (low n) fits (low-fits n)
+joined : (n h l : ℕ) → l < 2 ^ n → bitXor (h * 2 ^ n + l) polynomial ≡ bitXor h (high n) * 2 ^ n + bitXor l (low n)
+joined n h l fits = ap (bitXor (h * 2 ^ n + l)) (sym (split polynomial n)) ∙ xor-block n h (high n) l (low n) fits (low-fits n)
 
-joined-low : (n l : ℕ) → l < 2 ^ n → bitXor l 0x8408 ≡ high n * 2 ^ n + bitXor l (low n)
-joined-low n l fits = let none : 0 * 2 ^ n + l ≡ l = omega arith in ap (λ x. bitXor x 0x8408) (sym none) ∙ joined n 0 l fits
+joined-low : (n l : ℕ) → l < 2 ^ n → bitXor l polynomial ≡ high n * 2 ^ n + bitXor l (low n)
+joined-low n l fits = let none : 0 * 2 ^ n + l ≡ l = omega arith in ap (λ x. bitXor x polynomial) (sym none) ∙ joined n 0 l fits
 
--- n bits leave of a register its high part, moved down, and what they leave of the n low bits
-pub bits-out : (n h l : ℕ) → l < 2 ^ n → fcsBits n (h * 2 ^ n + l) ≡ bitXor h (fcsBits n l)
+-- what is above the n low bits moves down, and meets what the bits leave of those
+bits-out : (n h l : ℕ) → l < 2 ^ n → fcsBits n (h * 2 ^ n + l) ≡ bitXor h (fcsBits n l)
 unfolding fcsBits fcsBit
 bits-out zero h l fits = let none : l ≡ 0 = lt-one fits in rw none (add-zero (h * 1) ∙ mul-one h ∙ sym (xor-zero-r h))
 bits-out (suc n) h l fits =
