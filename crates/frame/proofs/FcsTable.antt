@@ -3,54 +3,29 @@
 use mathlib.Core.Path.{_≡_, sym, ap, _∙_}
 use Prim.Native.Nat.{ℕ, zero, suc, _+_, _*_, _/_, _%_, _^_, _<_}
 use native.Mathlib.Omega.{arith}
-use native.Mathlib.Nat.{mod-lt, add-zero, zero-add, mul-one, pow-suc}
-use lib.Arith.{lt-one}
-use lib.Bits.{bitXor, xor-block, xor-lt, xor-zero-r, block-half, block-odd}
+use native.Mathlib.Nat.{add-zero, zero-add, mul-one}
+use lib.Bits.{bitXor, xor-shr, xor-mod, xor-shifted, shifted-half, shifted-even}
 use lib.Dec.{eqb}
 use lib.ListN.{getD}
-use lib.Pow.{split, pow-pos}
+use lib.Pow.{split}
 use Rattle.octets.proofs.LawsTests.{by-test}
 use Rattle.frame.specs.Fcs.{fcsBit, fcsBits, fcsOctet, fcsEntries, fcsTable}
 use Rattle.frame.proofs.LawsXor.{xor-assoc}
 
--- ---- n bits go out of a number
-
-abbrev polynomial : ℕ
-polynomial = 0x8408
-
--- its two parts, above the n low bits and in them
-abbrev high : ℕ → ℕ
-high n = polynomial / 2 ^ n
-
-abbrev low : ℕ → ℕ
-low n = polynomial % 2 ^ n
-
-low-fits : (n : ℕ) → low n < 2 ^ n
-low-fits n = mod-lt polynomial (pow-pos n)
-
-joined : (n h l : ℕ) → l < 2 ^ n → bitXor (h * 2 ^ n + l) polynomial ≡ bitXor h (high n) * 2 ^ n + bitXor l (low n)
-joined n h l fits = ap (bitXor (h * 2 ^ n + l)) (sym (split polynomial n)) ∙ xor-block n h (high n) l (low n) fits (low-fits n)
-
-joined-low : (n l : ℕ) → l < 2 ^ n → bitXor l polynomial ≡ high n * 2 ^ n + bitXor l (low n)
-joined-low n l fits = let none : 0 * 2 ^ n + l ≡ l = omega arith in ap (λ x. bitXor x polynomial) (sym none) ∙ joined n 0 l fits
-
--- what is above the n low bits moves down, and meets what the bits leave of those
-bits-out : (n h l : ℕ) → l < 2 ^ n → fcsBits n (h * 2 ^ n + l) ≡ bitXor h (fcsBits n l)
+-- n steps: what was joined above the n low bits moves down, and is joined to what the steps leave of the rest
+bits-out : (n h l : ℕ) → fcsBits n (bitXor (h * 2 ^ n) l) ≡ bitXor h (fcsBits n l)
 unfolding fcsBits fcsBit
-bits-out zero h l fits = let none : l ≡ 0 = lt-one fits in rw none (add-zero (h * 1) ∙ mul-one h ∙ sym (xor-zero-r h))
-bits-out (suc n) h l fits =
-    let room : l < 2 ^ n * 2 = rw (pow-suc 2 n) at fits in
-    let half : l / 2 < 2 ^ n = omega arith in
+bits-out zero h l = ap (λ x. bitXor x l) (mul-one h)
+bits-out (suc n) h l =
+    let odd : bitXor (h * 2 ^ suc n) l % 2 ≡ l % 2 = xor-mod (h * 2 ^ suc n) l 1 ∙ ap (λ x. bitXor x (l % 2)) (shifted-even h n) in
+    let half : bitXor (h * 2 ^ suc n) l / 2 ≡ bitXor (h * 2 ^ n) (l / 2)
+    = xor-shr (h * 2 ^ suc n) l 1 ∙ ap (λ x. bitXor x (l / 2)) (shifted-half h n) in
     by-test (eqb (l % 2) 1)
-    (λ t. let rest = bitXor (l / 2) (low n) in
-    let less : rest < 2 ^ n = xor-lt n (l / 2) (low n) half (low-fits n) in
-    rw (block-odd h n l, block-half h n l, t)
-    (ap (fcsBits n) (joined n h (l / 2) half) ∙ bits-out n (bitXor h (high n)) rest less ∙ xor-assoc h (high n) (fcsBits n rest)
-    ∙ ap (bitXor h) (sym (ap (fcsBits n) (joined-low n (l / 2) half) ∙ bits-out n (high n) rest less))))
-    (λ t. rw (block-odd h n l, block-half h n l, t) (bits-out n h (l / 2) half))
+    (λ t. rw (odd, half, t) (ap (fcsBits n) (xor-assoc (h * 2 ^ n) (l / 2) _) ∙ bits-out n h _))
+    (λ t. rw (odd, half, t) (bits-out n h (l / 2)))
 
 pub eight-bits : (x : ℕ) → fcsBits 8 x ≡ bitXor (x / 256) (fcsBits 8 (x % 256))
-eight-bits x = ap (fcsBits 8) (sym (split x 8)) ∙ bits-out 8 (x / 256) (x % 256) (mod-lt x (pow-pos 8))
+eight-bits x = ap (fcsBits 8) (sym (xor-shifted (x / 256) 8 (x % 256) (omega arith) ∙ split x 8)) ∙ bits-out 8 (x / 256) (x % 256)
 
 -- ---- the table
 

@@ -18,7 +18,7 @@ fcsBits (suc n) r = fcsBits n (fcsBit r)
 unfoldable pub fcsOctet : ℕ → ℕ → ℕ
 fcsOctet r b = fcsBits 8 (bitXor r b)
 
--- what eight bits leave of so many octets, from x on; and of each octet from 0 to 255, the table of section C.2
+-- what eight bits leave of n numbers, from x on; and of each octet from 0 to 255, the table of section C.2
 unfoldable pub fcsEntries : ℕ → ℕ → List ℕ
 fcsEntries x zero = []
 fcsEntries x (suc n) = fcsBits 8 x ∷ fcsEntries (suc x) n

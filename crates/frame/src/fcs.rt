@@ -3,7 +3,7 @@ use crate::fcs_table::FCS_TABLE;
 ghost use mathlib.Core.Path.{_≡_};
 ghost use Rattle.frame.specs.Fcs.{fcsTable, fcsOctet, fcs};
 
-// The register after one octet: its high octet moves down, and the table has what the low one leaves.
+// The register after one octet, which joins the low end: then the high octet moves down and meets the table's entry of the low one.
 fn fcs_octet(register: u16, octet: u8, table: &[u16; 256]) -> u16
     requires { ⌜ now table ≡ fcsTable ⌝ }
     ensures { λ r. ⌜ r ≡ fcsOctet register octet ⌝ }
