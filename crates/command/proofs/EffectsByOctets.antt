@@ -6,13 +6,13 @@ use mathlib.Core.List.{List, [], _∷_}
 use Prim.Native.Nat.{ℕ, _+_, _*_, _≤_}
 use native.Mathlib.Omega.{arith}
 use borrow.Author.Tests.{eq-eqb, eqb-true, leb-true, le-leb, le-ltb}
-use lib.Dec.{eqb, ltb, leb}
+use lib.Dec.{eqb, leb}
 use lib.ListN.{length, getD, drop, length-drop}
 use lib.Seq.{getD-drop}
 use Rattle.octets.specs.Body.{headerOf}
 use Rattle.octets.specs.LittleEndian.{le}
 use Rattle.octets.proofs.LawsTests.{by-test, and-l, and-r, both, impossible}
-use Rattle.packed.specs.Packed.{packed, packedIn, numberIn, packedAt}
+use Rattle.packed.specs.Packed.{numberIn, packedAt}
 use Rattle.packed.proofs.OneSpelling.{one-octet}
 use Rattle.property.specs.Row.{rows, settable, lookupIn, lookup, allows}
 use Rattle.property.specs.Number.{powerState, within}
@@ -23,11 +23,9 @@ use Rattle.property.specs.declared.row.Kind.{Kind}
 use Rattle.property.specs.declared.row.Kind.the-variants.{ReadOnly, Power, Number as Kind·Number, Name, Ports}
 use Rattle.property.specs.declared.row.Scope.the-variants as scope
 use Rattle.property.specs.declared.row.Row.{Row}
-use Rattle.device.specs.State.{maxReply}
 use Rattle.device.specs.declared.state.Link.{Link}
 use Rattle.device.specs.declared.view.View.{View}
 use Rattle.device.specs.declared.view.Effect.the-variants.{None, Reset, Powered}
-use Rattle.device.specs.View.{after}
 use Rattle.request.specs.declared.verdict.Verdict.{Verdict}
 use Rattle.request.specs.declared.verdict.Verdict.the-variants as verdict
 use Rattle.request.specs.Verdict.{commandOf, byRow, byProperty, byCommand, verdict as verdictOf}
@@ -40,9 +38,7 @@ use Rattle.method.specs.Perform.{perform}
 use Rattle.method.specs.Set.{valueIn, powerTo, setPower, setKind}
 use Rattle.method.proofs.LawsEffects.{Quiet, Still, perform-still}
 use Rattle.method.proofs.LawsNumbers.{value-told, within-most}
-use Rattle.reply.specs.Value.{valueOf}
-use Rattle.reply.specs.Reply.{replyCommand, content, successReply}
-use Rattle.command.specs.Decision.{replying, concluded, reached, judgedBy, judged, statusDecision, decisionOf, decide}
+use Rattle.command.specs.Decision.{concluded, reached, judgedBy, judged, statusDecision, decisionOf, decide}
 use Rattle.command.specs.Effects.{isReset, isPower, effectOf}
 
 -- ---- the octets of a reset and of a power setting give their verdicts
@@ -83,10 +79,9 @@ from-power b t =
 
 quiet-decision : (v : View) (h : ℕ) (c : Command) (r : Row) (p : List ℕ) (l : Link) (o : Outcome) → Quiet o
     → decisionOf v h (concluded v h c r p l o) .effect ≡ None
-unfolding decisionOf concluded replying statusDecision
+unfolding decisionOf concluded statusDecision
 quiet-decision v h c r p l (Refused s) q = refl
-quiet-decision v h c r p l (Done e) q =
-    by-test (ltb maxReply (length (successReply (after v e l) h c r p))) (λ t. rw t) (λ t. rw t q)
+quiet-decision v h c r p l (Done e) q = q
 
 -- ---- a power setting that is accepted is one by its octets
 
@@ -129,7 +124,7 @@ accepted b r start x e k g =
 -- ---- the effect of a body
 
 power-effect : (v : View) (h x : ℕ) → x ≤ 4 → decisionOf v h (reached v h Set row7 (x ∷ [])) .effect ≡ Powered x
-unfolding decisionOf reached concluded perform setKind setPower powerTo valueIn within le replying successReply replyCommand content valueOf packed packedIn
+unfolding decisionOf reached concluded perform setKind setPower powerTo valueIn within le
 power-effect v h x few =
     let same : x + 256 * 0 ≡ x = omega arith in
     rw (same, le-ltb 255 x (omega arith), le-ltb x 0 (omega arith), le-leb x 4 few)

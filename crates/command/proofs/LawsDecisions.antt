@@ -5,12 +5,13 @@ use mathlib.Core.List.{List}
 use Prim.Native.Nat.{ℕ, _≤_}
 use native.Mathlib.Omega.{arith}
 use borrow.Author.Tests.{eq-eqb}
-use lib.Dec.{leb, ltb}
+use lib.Dec.{leb}
 use lib.ListN.{length, drop}
 use Rattle.octets.specs.Body.{headerOf}
-use Rattle.octets.proofs.LawsTests.{by-test, chosen, impossible}
+use Rattle.octets.proofs.LawsTests.{by-test, impossible}
 use Rattle.property.specs.Commands.{spinelHeader}
 use Rattle.property.specs.Status.{maxStatus}
+use Rattle.property.proofs.LawsStatus.{refusal-most}
 use Rattle.property.specs.declared.commands.Command.{Command}
 use Rattle.property.specs.declared.row.Row.{Row}
 use Rattle.device.specs.State.{maxReply}
@@ -18,7 +19,6 @@ use Rattle.device.specs.Rules.{sized, linkRule, settingsRule}
 use Rattle.device.specs.declared.state.Link.{Link}
 use Rattle.device.proofs.StateRules.{LinkFacts, link-told, link-from}
 use Rattle.device.specs.declared.view.View.{View}
-use Rattle.device.specs.View.{after}
 use Rattle.request.specs.Verdict.{verdict as verdictOf}
 use Rattle.request.specs.declared.verdict.Verdict.{Verdict}
 use Rattle.request.specs.declared.verdict.Verdict.the-variants as verdict
@@ -26,7 +26,7 @@ use Rattle.request.proofs.LawsVerdict.{verdict-reset}
 use Rattle.method.specs.declared.outcome.Outcome.{Outcome}
 use Rattle.method.specs.declared.outcome.Outcome.the-variants.{Done, Refused}
 use Rattle.reply.specs.Reply.{statusReply, successReply}
-use Rattle.command.specs.Decision.{withStatus, Judged, stopped, noop, reset, success, judged, statusDecision, decisionOf, decide, replying, concluded, reached, judgedBy}
+use Rattle.command.specs.Decision.{withStatus, Judged, stopped, noop, reset, success, judged, statusDecision, decisionOf, decide, concluded, reached, judgedBy}
 use Rattle.command.specs.Effects.{isReset}
 use Rattle.command.proofs.LawsJudged.{Sound, judged-sound}
 use Rattle.command.proofs.EffectsByOctets.{reset-verdict}
@@ -39,7 +39,7 @@ status-kept l s f h = record { sized = f .sized; status = h; range = f .range; s
 
 link-by : (v : View) (h : ℕ) (j : Judged) → LinkFacts (v .link) → Sound v j → LinkFacts (decisionOf v h j .link)
 unfolding decisionOf statusDecision
-link-by v h (stopped s) f t = status-kept (v .link) s f t
+link-by v h (stopped s) f t = status-kept (v .link) s f (refusal-most s t)
 link-by v h noop f t = status-kept (v .link) 0 f refl
 link-by v h reset f t = f
 link-by v h (success e l reply) f t = t .0
@@ -62,10 +62,9 @@ by-judged v h (success e l reply) t = (t .2, t .3)
 
 concluded-header : (v : View) (h : ℕ) (c : Command) (r : Row) (p : List ℕ) (l : Link) (o : Outcome)
     → headerOf (decisionOf v h (concluded v h c r p l o) .reply) ≡ h
-unfolding decisionOf concluded replying statusDecision statusReply successReply
+unfolding decisionOf concluded statusDecision statusReply successReply
 concluded-header v h c r p l (Refused s) = refl
-concluded-header v h c r p l (Done e) =
-    chosen (λ j. headerOf (decisionOf v h j .reply) ≡ h) (ltb maxReply (length (successReply (after v e l) h c r p))) (λ _. refl) (λ _. refl)
+concluded-header v h c r p l (Done e) = refl
 
 header-by : (v : View) (b : List ℕ) (w : Verdict) → verdictOf b ≡ w → isReset b ≡ false
     → headerOf (decisionOf v (headerOf b) (judgedBy v b w) .reply) ≡ headerOf b

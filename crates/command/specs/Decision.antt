@@ -1,17 +1,14 @@
 -- A body on a link that is set up (01, Commands).
 use Prim.Native.Nat.{ℕ}
-use mathlib.Core.Bool.{cond}
 use mathlib.Core.List.{List}
 use mathlib.Core.Path.{_≡_}
-use lib.Dec.{ltb}
-use lib.ListN.{length, drop}
+use lib.ListN.{drop}
 use Rattle.octets.specs.Body.{headerOf}
 use Rattle.octets.specs.Writing.{Wrote}
 use Rattle.property.specs.Commands.{spinelHeader}
 use Rattle.property.specs.Status.{resetStatus}
 use Rattle.property.specs.declared.commands.Command.{Command}
 use Rattle.property.specs.declared.row.Row.{Row}
-use Rattle.device.specs.State.{maxReply}
 use Rattle.device.specs.declared.state.Link.{Link}
 use Rattle.device.specs.declared.view.View.{View}
 use Rattle.device.specs.declared.view.Effect.{Effect}
@@ -34,13 +31,9 @@ pub data Judged : Type 0 where
   reset : Judged
   success : Effect → Link → List ℕ → Judged  -- the effect on the whole box, the link, the reply
 
--- step 9, "a reply body over 61 octets: 7"
-unfoldable pub replying : Effect → Link → List ℕ → Judged
-replying e l reply = cond (ltb maxReply (length reply)) (stopped 7) (success e l reply)
-
 -- the value of the reply is the one held after the command
 abbrev pub performed : View → ℕ → Command → Row → List ℕ → Link → Effect → Judged
-performed v h c r p l e = replying e l (successReply (after v e l) h c r p)
+performed v h c r p l e = success e l (successReply (after v e l) h c r p)
 
 unfoldable pub concluded : View → ℕ → Command → Row → List ℕ → Link → Outcome → Judged
 concluded v h c r p l (Refused s) = stopped s

@@ -1,5 +1,4 @@
 // A body on a link that is set up. It sees that link and what all links share, and no other link.
-use device::Device;
 use device::Effect;
 use device::Link;
 use device::View;
@@ -46,7 +45,7 @@ fn report_status(link: Link, header: u8, status: u8, out: &mut [u8]) -> Decided
     }
 }
 
-// The reply to a command that was performed; step 9.
+// The reply to a command that was performed.
 fn conclude(
     view: View,
     effect: Effect,
@@ -62,13 +61,10 @@ fn conclude(
     ensures { λ r. ⌜ Did (decisionOf view header (performed view header command row (now (payload .entry)) link effect)) r (now (out .entry)) (now (out .exit)) ⌝ }
 {
     let len = write_reply(out, view.after(effect, link), header, command, row, payload);
-    if Device::MAX_REPLY < len {
-        return report_status(view.link, header, status::INTERNAL_ERROR, out);
-    }
     Decided { effect, link, len }
 }
 
-// Steps 6 to 9.
+// Steps 6 to 8.
 fn reach(
     view: View,
     header: u8,
@@ -89,7 +85,7 @@ fn reach(
     }
 }
 
-// Steps 2 to 9.
+// Steps 2 to 8.
 pub fn decide(view: View, body: &[u8], out: &mut [u8]) -> Decided
     requires { ⌜ (settingsRule (view .settings) ≡ true) × (linkRule (view .link) ≡ true) × (0 < length (now body)) × (maxReply ≤ length (now out)) ⌝ }
     ensures { λ r. ⌜ Did (decide view (now (body .entry))) r (now (out .entry)) (now (out .exit)) ⌝ }

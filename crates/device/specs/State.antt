@@ -38,7 +38,7 @@ maxPorts = 8
 abbrev pub maxHeld : ℕ
 maxHeld = 16
 
--- step 9, "a reply body over 61 octets: 7"
+-- "no property in 01 makes a reply body over 61 octets" (02, T-04)
 abbrev pub maxReply : ℕ
 maxReply = 61
 

@@ -5,6 +5,8 @@ pub mod RepliesInOrder
 pub mod LawsCarried
 pub mod AnyFraming
 pub mod ReplyBounds
+pub mod StepNine
+pub mod StatusesTold
 pub mod ReplyHeader
 pub mod Refusals
 pub mod MarkedBodies

@@ -22,7 +22,7 @@ use Rattle.method.specs.Items.{insertPort, without, removePort}
 use Rattle.reply.specs.Value.{fixedValue, numberValue, valueOf}
 use Rattle.reply.specs.Reply.{statusReply, replyCommand, content, successReply}
 use Rattle.command.specs.Effects.{isReset}
-use Rattle.command.specs.Decision.{replying, concluded, reached, judgedBy, judged, statusDecision, decisionOf, decide}
+use Rattle.command.specs.Decision.{concluded, reached, judgedBy, judged, statusDecision, decisionOf, decide}
 use Rattle.engine.specs.Engine.{linkOf, isSetUp, affect, settled, engine}
 use Rattle.engine.specs.Merged.{deviceAfter, repliesTo}
 use Rattle.engine.specs.Links.{isAnswered, repliesOn, valuesOn, statusOn}
@@ -33,7 +33,7 @@ pub marked-bodies : map (λ l. repliesTo freshBox (l .bodies)) marked ≡ map (�
 unfolding before le leOctets pad packed packedIn joined numberIn packedAt rows lookupIn lookup allows numbers within
     isUtf8 ends goodText isText portsIn holds distinct defaults fresh isGoodSetup refusal setupFor powerAfter commandOf byRow byProperty byCommand verdict
     getWith valueIn conflicts numberTo setNumber powerTo setPower setName setPorts setKind insertPort without removePort perform
-    fixedValue numberValue valueOf statusReply replyCommand content successReply replying concluded reached judgedBy judged statusDecision decisionOf
+    fixedValue numberValue valueOf statusReply replyCommand content successReply concluded reached judgedBy judged statusDecision decisionOf
     decide linkOf isSetUp affect settled engine freshBox repliesTo marked
 marked-bodies = refl
 
@@ -50,6 +50,6 @@ pub worked-links : WorkedLinks workedSetup
 unfolding before le leOctets pad packed packedIn joined numberIn packedAt rows lookupIn lookup allows numbers within
     isUtf8 step leads leadIn isBetween ends goodText isText portsIn holds distinct defaults fresh isGoodSetup setupFor powerAfter commandOf byRow byProperty byCommand verdict
     getWith valueIn conflicts numberTo setNumber powerTo setPower setKind insertPort perform
-    fixedValue numberValue valueOf statusReply replyCommand content successReply replying concluded reached judgedBy judged statusDecision decisionOf
+    fixedValue numberValue valueOf statusReply replyCommand content successReply concluded reached judgedBy judged statusDecision decisionOf
     decide isReset linkOf isSetUp affect settled engine deviceAfter isAnswered repliesOn valuesOn statusOn
 worked-links = record { replies-0 = refl; replies-1 = refl; replies-2 = refl; values-1 = refl; status-1 = refl; status-2 = refl }

@@ -1,11 +1,11 @@
--- PROMISE: a command leaves a link that keeps its rules, with the last status that it had, and refuses with a status that a link can hold.
+-- PROMISE: a command leaves a link that keeps its rules, with the last status that it had, and refuses with a status of 01's.
 use mathlib.Core.Path.{_≡_, refl, sym, _∙_}
 use mathlib.Core.Bool.{Bool, true, false, not}
 use mathlib.Core.List.{List, _++_}
 use Prim.Native.Nat.{ℕ, suc, _+_, _*_, _%_, _<_, _≤_}
 use native.Mathlib.Omega.{arith}
 use borrow.Author.Tests.{eq-eqb, eqb-true, eqb-false, le-leb, ltb-true, ltb-false}
-use lib.Dec.{eqb, ltb, leb}
+use lib.Dec.{eqb, ltb}
 use lib.ListN.{length, getD, take, set, length-append, length-set}
 use lib.Seq.{getD-set-same, getD-set-other}
 use Rattle.octets.specs.Finding.{before}
@@ -14,14 +14,14 @@ use Rattle.octets.specs.Padding.{pad}
 use Rattle.octets.proofs.LawsPadding.{pad-length, pad-front, pad-zeros}
 use Rattle.octets.proofs.LawsScanning.{all-at, all-of}
 use Rattle.octets.proofs.LawsTests.{by-test, chosen, and-l, and-r, impossible}
-use Rattle.property.specs.Status.{maxStatus}
+use Rattle.property.specs.Status.{Refusal, invalid-argument, invalid-state, parse-error, nomem, already, item-not-found, invalid-command-for-prop}
 use Rattle.property.specs.Number.{numberAt, powerState, within, slotCount}
 use Rattle.property.specs.declared.number.Number.{Number as Numeric}
 use Rattle.property.specs.declared.commands.Command.{Command}
 use Rattle.property.specs.declared.commands.Command.the-variants.{Get, Set, Insert, Remove}
 use Rattle.property.specs.declared.row.Kind.{Kind}
 use Rattle.property.specs.declared.row.Kind.the-variants.{ReadOnly, Power, Number, Name, Ports}
-use Rattle.property.proofs.TableRule.{numbers-keep, outside-most}
+use Rattle.property.proofs.TableRule.{numbers-keep, power-keeps, outside-refused}
 use Rattle.device.specs.State.{heldFrom, octetsOf, maxHeld, maxName, maxPorts}
 use Rattle.device.specs.Text.{isText}
 use Rattle.device.specs.Ports.{portsIn, holds, distinct}
@@ -43,15 +43,14 @@ use Rattle.method.proofs.StackAndInterface.{conflict-test}
 use Rattle.method.proofs.LawsNumbers.{value-within}
 use Rattle.method.proofs.LawsItems.{distinct-snoc, distinct-less, ports-snoc, ports-without, length-without}
 
--- a status that a link can hold
-abbrev pub SmallStatus : Outcome → Type 0
-SmallStatus (Done e) = Unit {0}
-SmallStatus (Refused s) = leb s maxStatus ≡ true
+abbrev pub WithStatus : Outcome → Type 0
+WithStatus (Done e) = Unit {0}
+WithStatus (Refused s) = Refusal s
 
 pub record Kept (l : Link) (r : Performed) : Type 0 where
   pub facts : LinkFacts (r .link)
   pub same : r .link .status ≡ l .status
-  pub small : SmallStatus (r .outcome)
+  pub refusal : WithStatus (r .outcome)
 
 -- ---- what is put into its array keeps its rule
 
@@ -71,14 +70,14 @@ sized-with l xs few t =
 
 -- ---- numbers
 
-bad-small : (n : Numeric) (p : List ℕ) (s : ℕ) → leb (n .outside) maxStatus ≡ true → valueIn n p ≡ Bad s → leb s maxStatus ≡ true
+bad-refused : (n : Numeric) (p : List ℕ) (s : ℕ) → Refusal (n .outside) → valueIn n p ≡ Bad s → Refusal s
 unfolding valueIn
-bad-small n p s h e =
+bad-refused n p s h e =
     by-test (eqb (length p) (n .width))
     (λ t. by-test (within n (le p))
     (λ u. let e' = rw (t, u) at e in impossible cc)
     (λ u. let e' = rw (t, u) at e in let same : n .outside ≡ s = cc in rw (← same) h))
-    (λ t. let e' = rw t at e in let same : 9 ≡ s = cc in rw (← same))
+    (λ t. let e' = rw t at e in let same : 9 ≡ s = cc in rw (← same) parse-error)
 
 sized-numbers : (l : Link) (slot v : ℕ) → sized l ≡ true → sized (withNumbers l (set (l .numbers) slot v)) ≡ true
 unfolding sized
@@ -95,10 +94,10 @@ module _ (l : Link) (t : linkRule l ≡ true) where
   f = link-told l t
 
   kept-done : Kept l (done l)
-  kept-done = record { facts = f; same = refl; small = tt }
+  kept-done = record { facts = f; same = refl; refusal = tt }
 
-  kept-refused : (s : ℕ) → leb s maxStatus ≡ true → Kept l (refused l s)
-  kept-refused s h = record { facts = f; same = refl; small = h }
+  kept-refused : {s : ℕ} → Refusal s → Kept l (refused l s)
+  kept-refused h = record { facts = f; same = refl; refusal = h }
 
   kept-name : (xs : List ℕ) → isText maxName xs ≡ true → Kept l (done (withName l (heldFrom xs)))
   kept-name xs h =
@@ -113,7 +112,7 @@ module _ (l : Link) (t : linkRule l ≡ true) where
           ports = f .ports;
         };
         same = refl;
-        small = tt;
+        refusal = tt;
       }
 
   kept-ports : (xs : List ℕ) → length xs ≤ maxHeld → length xs % 2 ≡ 0 → distinct (portsIn xs) ≡ true → Kept l (done (withPorts l (heldFrom xs)))
@@ -128,26 +127,26 @@ module _ (l : Link) (t : linkRule l ≡ true) where
           ports = ports-held xs few even d;
         };
         same = refl;
-        small = tt;
+        refusal = tt;
       }
 
   name-kept : (p : List ℕ) → Kept l (setName l p)
   unfolding setName
   name-kept p =
       chosen (Kept l) (eqb (suc (before 0 p)) (length p))
-      (λ _. chosen (Kept l) (isText maxName (take (before 0 p) p)) (λ h. kept-name (take (before 0 p) p) h) (λ _. kept-refused 3 refl))
-      (λ _. kept-refused 9 refl)
+      (λ _. chosen (Kept l) (isText maxName (take (before 0 p) p)) (λ h. kept-name (take (before 0 p) p) h) (λ _. kept-refused invalid-argument))
+      (λ _. kept-refused parse-error)
 
   ports-kept : (p : List ℕ) → Kept l (setPorts l p)
   unfolding setPorts
   ports-kept p =
       chosen (Kept l) (eqb (length p % 2) 0)
       (λ e. chosen (Kept l) (distinct (portsIn p))
-      (λ d. chosen (Kept l) (ltb maxPorts (length (portsIn p))) (λ _. kept-refused 11 refl)
+      (λ d. chosen (Kept l) (ltb maxPorts (length (portsIn p))) (λ _. kept-refused nomem)
       (λ h. let even = eqb-true (length p % 2) 0 e in
       kept-ports p (omega (arith, ports-length p, ltb-false maxPorts (length (portsIn p)) h)) even d))
-      (λ _. kept-refused 3 refl))
-      (λ _. kept-refused 9 refl)
+      (λ _. kept-refused invalid-argument))
+      (λ _. kept-refused parse-error)
 
   -- the octets of the ports held: so many, an even number, distinct
   abbrev xs : List ℕ
@@ -158,14 +157,14 @@ module _ (l : Link) (t : linkRule l ≡ true) where
   insert-kept p =
       chosen (Kept l) (eqb (length p) 2)
       (λ e. let two = eqb-true (length p) 2 e in
-      chosen (Kept l) (holds (le p) (portsIn xs)) (λ _. kept-refused 19 refl)
+      chosen (Kept l) (holds (le p) (portsIn xs)) (λ _. kept-refused already)
       (λ h. chosen (Kept l) (ltb (length (portsIn xs)) maxPorts)
       (λ g. let long = length-append xs p in
       let few : length (xs ++ p) ≤ maxHeld = omega (arith, ports-length xs, ltb-true (length (portsIn xs)) maxPorts g, ports-even l t) in
       let apart : distinct (portsIn (xs ++ p)) ≡ true = rw (ports-snoc xs p (ports-even l t) two) (distinct-snoc (le p) (portsIn xs) (ports-distinct l t) h) in
       kept-ports (xs ++ p) few (omega (arith, ports-even l t)) apart)
-      (λ _. kept-refused 11 refl)))
-      (λ _. kept-refused 9 refl)
+      (λ _. kept-refused nomem)))
+      (λ _. kept-refused parse-error)
 
   remove-kept : (p : List ℕ) → Kept l (removePort l p)
   unfolding removePort
@@ -178,8 +177,8 @@ module _ (l : Link) (t : linkRule l ≡ true) where
       let most = ports-room l t .most in
       let count = ports-room l t .counted in
       kept-ports (without (2 * i) xs) (omega arith) (omega (arith, ports-even l t)) (rw (ports-without i xs inside) (distinct-less i (portsIn xs) (ports-distinct l t))))
-      (λ _. kept-refused 20 refl))
-      (λ _. kept-refused 9 refl)
+      (λ _. kept-refused item-not-found))
+      (λ _. kept-refused parse-error)
 
   -- one number changed to another of its range
   range-set : (slot v : ℕ) → slot < slotCount → within (numberAt slot) v ≡ true → inRange (set (l .numbers) slot v) ≡ true
@@ -193,10 +192,10 @@ module _ (l : Link) (t : linkRule l ≡ true) where
 
   number-kept : (slot : ℕ) (x : PayloadNumber) (p : List ℕ) → slot < slotCount → valueIn (numberAt slot) p ≡ x → Kept l (numberTo l slot x)
   unfolding numberTo
-  number-kept slot (Bad s) p h e = kept-refused s (bad-small (numberAt slot) p s (outside-most (numberAt slot) (numbers-keep slot h)) e)
+  number-kept slot (Bad s) p h e = kept-refused (bad-refused (numberAt slot) p s (outside-refused (numberAt slot) (numbers-keep slot h)) e)
   number-kept slot (Good v) p h e =
       let w = value-within (numberAt slot) p v e in
-      chosen (Kept l) (conflicts (l .numbers) slot v) (λ _. kept-refused 4 refl)
+      chosen (Kept l) (conflicts (l .numbers) slot v) (λ _. kept-refused invalid-state)
       (λ c. record {
         facts = record {
           sized = sized-numbers l slot v (f .sized);
@@ -207,17 +206,17 @@ module _ (l : Link) (t : linkRule l ≡ true) where
           ports = f .ports;
         };
         same = refl;
-        small = tt;
+        refusal = tt;
       })
 
   power-kept : (x : PayloadNumber) (p : List ℕ) → valueIn powerState p ≡ x → Kept l (powerTo l x)
   unfolding powerTo
-  power-kept (Good x) p e = record { facts = f; same = refl; small = tt }
-  power-kept (Bad s) p e = kept-refused s (bad-small powerState p s refl e)
+  power-kept (Good x) p e = record { facts = f; same = refl; refusal = tt }
+  power-kept (Bad s) p e = kept-refused (bad-refused powerState p s (outside-refused powerState power-keeps) e)
 
   set-kept : (k : Kind) (p : List ℕ) → ((slot : ℕ) → k ≡ Number slot → slot < slotCount) → Kept l (setKind l k p)
   unfolding setKind setNumber setPower
-  set-kept (ReadOnly x) p h = kept-refused 21 refl
+  set-kept (ReadOnly x) p h = kept-refused invalid-command-for-prop
   set-kept Power p h = power-kept (valueIn powerState p) p refl
   set-kept (Number slot) p h = number-kept slot (valueIn (numberAt slot) p) p (h slot refl) refl
   set-kept Name p h = name-kept p
@@ -225,7 +224,7 @@ module _ (l : Link) (t : linkRule l ≡ true) where
 
   pub perform-kept : (c : Command) (k : Kind) (p : List ℕ) → ((slot : ℕ) → k ≡ Number slot → slot < slotCount) → Kept l (perform l c k p)
   unfolding perform getWith
-  perform-kept Get k p h = chosen (Kept l) (eqb (length p) 0) (λ _. kept-done) (λ _. kept-refused 9 refl)
+  perform-kept Get k p h = chosen (Kept l) (eqb (length p) 0) (λ _. kept-done) (λ _. kept-refused parse-error)
   perform-kept Set k p h = set-kept k p h
   perform-kept Insert k p h = insert-kept p
   perform-kept Remove k p h = remove-kept p

@@ -1,2 +1,3 @@
+pub mod LawsStatus
 pub mod TableRule
 pub mod SignedRange

@@ -1,7 +1,7 @@
 -- PROMISE: every row of the two tables keeps its rule, each by one test that is computed over the whole table; what is looked up is the
 -- row of that property, and keeps the rule; the slots that the rules of the state name are those of 65 and 66.
 use mathlib.Core.Path.{_≡_, refl, sym, _∙_}
-use mathlib.Core.Bool.{Bool, true, false, cond, not, _&&_}
+use mathlib.Core.Bool.{Bool, true, false, cond, not, _&&_, _||_}
 use mathlib.Core.List.{List, [], _∷_}
 use Prim.Native.Nat.{ℕ, zero, suc, _+_, _^_, _<_, _≤_}
 use native.Mathlib.Omega.{arith}
@@ -12,8 +12,8 @@ use lib.ListN.{length, getD, drop}
 use lib.Seq.{drop-cons}
 use Rattle.octets.specs.Scanning.{allFrom, allBelow}
 use Rattle.octets.proofs.LawsScanning.{all-at}
-use Rattle.octets.proofs.LawsTests.{chosen, and-l, and-r}
-use Rattle.property.specs.Status.{maxStatus}
+use Rattle.octets.proofs.LawsTests.{by-test, chosen, and-l, and-r}
+use Rattle.property.specs.Status.{Refusal, parse-error, invalid-argument}
 use Rattle.property.specs.declared.row.Kind.{Kind}
 use Rattle.property.specs.declared.row.Kind.the-variants.{Power, Number}
 use Rattle.property.specs.declared.row.Row.{Row}
@@ -105,9 +105,18 @@ slot-below r slot e t = ltb-true slot slotCount (and-l (ltb slot slotCount) _ (k
 pub width-most : (n : Numeric) → numberRule n ≡ true → n .width ≤ 4
 width-most n t = leb-true (n .width) 4 (and-l (leb (n .width) 4) _ (and-r (leb 1 (n .width)) _ t))
 
-pub outside-most : (n : Numeric) → numberRule n ≡ true → leb (n .outside) maxStatus ≡ true
-outside-most n t =
-    and-l (leb (n .outside) maxStatus) _ (and-r (eqb (suc (n .top)) (256 ^ n .width)) _ (and-r (leb (n .width) 4) _ (and-r (leb 1 (n .width)) _ t)))
+three-or-nine : (s : ℕ) → (eqb s 3 || eqb s 9) ≡ true → Refusal s
+three-or-nine s t =
+    by-test (eqb s 3)
+    (λ e. let three = eqb-true s 3 e in rw three invalid-argument)
+    (λ e. let nine = eqb-true s 9 (rw e at t) in rw nine parse-error)
+
+-- a value outside is refused as 01 says
+pub outside-refused : (n : Numeric) → numberRule n ≡ true → Refusal (n .outside)
+outside-refused n t =
+    three-or-nine (n .outside)
+    (and-l (eqb (n .outside) 3 || eqb (n .outside) 9) _
+    (and-r (eqb (suc (n .top)) (256 ^ n .width)) _ (and-r (leb (n .width) 4) _ (and-r (leb 1 (n .width)) _ t))))
 
 -- ---- looking from the i-th row on
 

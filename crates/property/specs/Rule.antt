@@ -1,10 +1,9 @@
 -- The rules of the two tables, which a lookup's caller may rely on.
 use Prim.Native.Nat.{suc, _^_}
-use mathlib.Core.Bool.{Bool, true, false, cond, not, _&&_}
+use mathlib.Core.Bool.{Bool, true, false, cond, not, _&&_, _||_}
 use mathlib.Core.Path.{_≡_}
 use lib.Dec.{eqb, ltb, leb}
 use lib.ListN.{getD}
-use Rattle.property.specs.Status.{maxStatus}
 use Rattle.property.specs.declared.row.ReadOnly.{ReadOnly as Fixed}
 use Rattle.property.specs.declared.row.ReadOnly.the-variants.{LastStatus, ProtocolVersion, VersionText, InterfaceType, Vendor, Capabilities, InterfaceCount, HardwareAddress}
 use Rattle.property.specs.declared.row.Kind.{Kind}
@@ -57,7 +56,8 @@ abbrev pub KeepsRule : Found → Type 0
 KeepsRule Unknown = Unit {0}
 KeepsRule (At r) = rowRule r ≡ true
 
--- 1 to 4 octets, the top of that width, a status that a link can hold, and a default that is one of the values
+-- 1 to 4 octets, the top of that width, 3 or 9 for a value outside ("value out of range: 3", "a bool not 00 or 01: 9"), and a default
+-- that is one of the values
 abbrev pub numberRule : Numeric → Bool
 numberRule n =
-    leb 1 (n .width) && (leb (n .width) 4 && (eqb (suc (n .top)) (256 ^ n .width) && (leb (n .outside) maxStatus && within n (n .default))))
+    leb 1 (n .width) && (leb (n .width) 4 && (eqb (suc (n .top)) (256 ^ n .width) && ((eqb (n .outside) 3 || eqb (n .outside) 9) && within n (n .default))))

@@ -8,3 +8,21 @@ maxStatus = 127
 -- RESET puts "every last status to 114"
 abbrev pub resetStatus : ℕ
 resetStatus = 114
+
+-- the statuses with which steps 2 to 8 refuse a body (01, Commands), by 000's names
+pub data Refusal : ℕ → Type 0 where
+  -- "command unreadable: 9", "property number unreadable: 9", "payload of wrong shape, octets left over .., or a bool not 00 or 01: 9"
+  parse-error : Refusal 9
+  -- "none of 0 to 5: 5"
+  invalid-command : Refusal 5
+  -- "unknown: 13"
+  prop-not-found : Refusal 13
+  -- "command not allowed for it: 21"
+  invalid-command-for-prop : Refusal 21
+  -- "value out of range: 3"
+  invalid-argument : Refusal 3
+  -- "state: 4, 11, 19, 20 as below"
+  invalid-state : Refusal 4
+  nomem : Refusal 11
+  already : Refusal 19
+  item-not-found : Refusal 20

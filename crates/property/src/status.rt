@@ -7,8 +7,6 @@ pub const INVALID_COMMAND: u8 = 5;
 
 pub const INVALID_INTERFACE: u8 = 6;
 
-pub const INTERNAL_ERROR: u8 = 7;
-
 pub const PARSE_ERROR: u8 = 9;
 
 pub const NOMEM: u8 = 11;

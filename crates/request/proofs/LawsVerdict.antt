@@ -5,14 +5,14 @@ use mathlib.Core.List.{List}
 use Prim.Native.Nat.{ℕ, _≤_}
 use native.Mathlib.Omega.{arith}
 use borrow.Author.Tests.{eqb-true, ltb-false}
-use lib.Dec.{eqb, ltb, leb}
+use lib.Dec.{eqb, ltb}
 use lib.ListN.{length, getD}
 use Rattle.octets.proofs.LawsTests.{by-test, chosen, impossible}
 use Rattle.packed.specs.Packed.{packedAt}
 use Rattle.packed.specs.declared.Packed.{Packed}
 use Rattle.packed.specs.declared.Packed.the-variants.{Number, Unreadable}
 use Rattle.packed.proofs.OneSpelling.{place-after, one-octet}
-use Rattle.property.specs.Status.{maxStatus}
+use Rattle.property.specs.Status.{Refusal, invalid-command, parse-error, prop-not-found, invalid-command-for-prop}
 use Rattle.property.specs.Row.{lookup, allows}
 use Rattle.property.specs.Rule.{rowRule}
 use Rattle.property.specs.declared.commands.Command.{Command}
@@ -32,6 +32,7 @@ pub record Reached (b : List ℕ) (c : Command) (r : Row) (start : ℕ) : Type 0
   pub few : number ≤ 5
   pub named : commandOf number ≡ c
   pub property : packedAt b next ≡ Number (r .id) start
+  pub found : lookup (r .id) ≡ At r
   pub allowed : allows r c ≡ true
   pub rule : rowRule r ≡ true
 
@@ -46,13 +47,13 @@ from-found id Unknown r a e = impossible cc
 from-found id (At x) r a e = let same : x ≡ r = cc in rw (← same) a
 
 by-property : (d c : Command) (q : Packed) (r : Row) (start : ℕ) → byProperty d q ≡ Reach c r start
-    → (q ≡ Number (r .id) start) × (d ≡ c) × (allows r c ≡ true) × (rowRule r ≡ true)
+    → (q ≡ Number (r .id) start) × (d ≡ c) × (allows r c ≡ true) × (rowRule r ≡ true) × (lookup (r .id) ≡ At r)
 unfolding byProperty
 by-property d c Unreadable r start e = impossible cc
 by-property d c (Number id at) r start e =
     let t = by-row d c at start (lookup id) r e in
     let f = from-found id (lookup id) r (lookup-asked id) (t .0) in
-    (cc, t .1, t .3, f .0)
+    (cc, t .1, t .3, f .0, cc)
 
 by-command : (b : List ℕ) (q : Packed) (c : Command) (r : Row) (start : ℕ)
     → packedAt b 1 ≡ q → byCommand b q ≡ Reach c r start → Reached b c r start
@@ -70,6 +71,7 @@ by-command b (Number n next) c r start p e =
       few = ltb-false 5 n w;
       named = told .1;
       property = told .0;
+      found = told .4;
       allowed = told .2;
       rule = told .3;
     })))
@@ -111,29 +113,30 @@ verdict-reset b e = command-reset b (packedAt b 1) refl e
 
 -- ---- the statuses of steps 2 to 5
 
-abbrev pub Small : Verdict → Type 0
-Small (Refuse step s) = leb s maxStatus ≡ true
-Small Noop = Unit {0}
-Small Reset = Unit {0}
-Small (Reach c r start) = Unit {0}
+abbrev pub WithStatus : Verdict → Type 0
+WithStatus (Refuse step s) = Refusal s
+WithStatus Noop = Unit {0}
+WithStatus Reset = Unit {0}
+WithStatus (Reach c r start) = Unit {0}
 
-row-small : (c : Command) (start : ℕ) (f : Found) → Small (byRow c start f)
+row-status : (c : Command) (start : ℕ) (f : Found) → WithStatus (byRow c start f)
 unfolding byRow
-row-small c start Unknown = refl
-row-small c start (At r) = chosen Small (allows r c) (λ _. tt) (λ _. refl)
+row-status c start Unknown = prop-not-found
+row-status c start (At r) = chosen WithStatus (allows r c) (λ _. tt) (λ _. invalid-command-for-prop)
 
-property-small : (c : Command) (q : Packed) → Small (byProperty c q)
+property-status : (c : Command) (q : Packed) → WithStatus (byProperty c q)
 unfolding byProperty
-property-small c Unreadable = refl
-property-small c (Number id start) = row-small c start (lookup id)
+property-status c Unreadable = parse-error
+property-status c (Number id start) = row-status c start (lookup id)
 
-command-small : (b : List ℕ) (q : Packed) → Small (byCommand b q)
+command-status : (b : List ℕ) (q : Packed) → WithStatus (byCommand b q)
 unfolding byCommand
-command-small b Unreadable = refl
-command-small b (Number n next) =
-    chosen Small (eqb n 0) (λ _. tt)
-    (λ _. chosen Small (eqb n 1) (λ _. tt) (λ _. chosen Small (ltb 5 n) (λ _. refl) (λ _. property-small (commandOf n) (packedAt b next))))
+command-status b Unreadable = parse-error
+command-status b (Number n next) =
+    chosen WithStatus (eqb n 0) (λ _. tt)
+    (λ _. chosen WithStatus (eqb n 1) (λ _. tt)
+    (λ _. chosen WithStatus (ltb 5 n) (λ _. invalid-command) (λ _. property-status (commandOf n) (packedAt b next))))
 
-pub verdict-small : (b : List ℕ) → Small (verdict b)
+pub verdict-status : (b : List ℕ) → WithStatus (verdict b)
 unfolding verdict
-verdict-small b = command-small b (packedAt b 1)
+verdict-status b = command-status b (packedAt b 1)
