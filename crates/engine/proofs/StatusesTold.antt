@@ -1,5 +1,5 @@
 -- PROMISE: from what setup returned, whatever bodies came, no link's last status is 7 and no reply tells status 7 (02, T-04): they are 0 (NOOP),
--- 114 (after a reset) or a status with which bodies are refused.
+-- 6 (link not set up), 114 (after a reset) or one of the nine statuses with which the other steps refuse.
 use mathlib.Core.Logic.{_≢_}
 use mathlib.Core.Path.{_≡_, refl, ap}
 use mathlib.Core.Bool.{true}
@@ -37,7 +37,7 @@ use Rattle.engine.proofs.Separation.{step-view}
 use Rattle.engine.proofs.StepNine.{refusalStatuses}
 
 abbrev pub toldStatuses : List ℕ
-toldStatuses = 0 ∷ 114 ∷ refusalStatuses
+toldStatuses = 0 ∷ 6 ∷ 114 ∷ refusalStatuses
 
 abbrev Known : ℕ → Type 0
 Known s = holds s toldStatuses ≡ true

@@ -8,7 +8,7 @@ use borrow.Author.Tests.{le-ltb, ltb-true}
 use lib.Dec.{ltb}
 use lib.ListN.{length}
 use Rattle.octets.specs.Finding.{before}
-use Rattle.octets.proofs.LawsTests.{impossible}
+use Rattle.octets.proofs.LawsTests.{by-test, impossible}
 use Rattle.property.proofs.LawsStatus.{by-status}
 use Rattle.device.specs.State.{maxReply}
 use Rattle.device.specs.Ports.{holds}
@@ -48,16 +48,19 @@ pub data RefusedWith (d : Device) (b : List ℕ) : ℕ → Type 0 where
   on-link : {s : ℕ} → isSetUp (d .settings) b ≡ true → judged (viewOf (linkOf b) d) b ≡ stopped s → RefusedWith d b s
 
 abbrev pub refusalStatuses : List ℕ
-refusalStatuses = 3 ∷ 4 ∷ 5 ∷ 6 ∷ 9 ∷ 11 ∷ 13 ∷ 19 ∷ 20 ∷ 21 ∷ []
+refusalStatuses = 3 ∷ 4 ∷ 5 ∷ 9 ∷ 11 ∷ 13 ∷ 19 ∷ 20 ∷ 21 ∷ []
 
-pub refusal-statuses : (d : Device) (b : List ℕ) (s : ℕ) → rules d ≡ true → RefusedWith d b s → holds s refusalStatuses ≡ true
+pub refusal-statuses : (d : Device) (b : List ℕ) (s : ℕ) → rules d ≡ true → RefusedWith d b s
+    → holds s (cond (isSetUp (d .settings) b) refusalStatuses (6 ∷ [])) ≡ true
 unfolding holds before isSetUp
-refusal-statuses d b _ t (link-not-set-up e) = refl
+refusal-statuses d b _ t (link-not-set-up e) = rw e
 refusal-statuses d b s t (on-link e j) =
     let up = ltb-true (linkOf b) (d .settings .links) e in
     let sound = rw j at (judged-sound (viewOf (linkOf b) d) (settings-of d t) (link-at d t (linkOf b) up) b) in
-    by-status (λ x. holds x refusalStatuses ≡ true) refl refl refl refl refl refl refl refl refl s sound
+    rw e (by-status (λ x. holds x refusalStatuses ≡ true) refl refl refl refl refl refl refl refl refl s sound)
 
 pub never-seven : (d : Device) (b : List ℕ) → rules d ≡ true → RefusedWith d b 7 → ⊥
 unfolding holds before
-never-seven d b t r = impossible (cc (refusal-statuses d b 7 t r))
+never-seven d b t r =
+    let listed = refusal-statuses d b 7 t r in
+    by-test (isSetUp (d .settings) b) (λ e. impossible (cc (rw e at listed))) (λ e. impossible (cc (rw e at listed)))
