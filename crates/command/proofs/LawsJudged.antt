@@ -1,12 +1,12 @@
--- What a body on a link comes to, from a state that keeps its rules: a refusal has a status of 01's, and a success leaves a
--- link that keeps its rules, with the last status that it had, and a reply of 3 to 61 octets.
+-- What a body on a link comes to, from a state that keeps its rules: a refusal has one of the nine statuses, and a success
+-- leaves a link that keeps its rules, with the last status that it had, and a reply of 3 to 61 octets.
 use mathlib.Core.Path.{_≡_, refl}
 use mathlib.Core.Bool.{true}
 use mathlib.Core.List.{List}
 use Prim.Native.Nat.{ℕ, _≤_}
 use lib.ListN.{length, drop}
 use Rattle.octets.specs.Body.{headerOf}
-use Rattle.property.specs.Status.{Refusal}
+use Rattle.property.specs.Status.{RefusalStatus}
 use Rattle.property.specs.Rule.{rowRule}
 use Rattle.property.specs.declared.commands.Command.{Command}
 use Rattle.property.specs.declared.row.Row.{Row}
@@ -19,7 +19,7 @@ use Rattle.device.specs.View.{after}
 use Rattle.request.specs.declared.verdict.Verdict.{Verdict}
 use Rattle.request.specs.declared.verdict.Verdict.the-variants as verdict
 use Rattle.request.specs.Verdict.{verdict as verdictOf}
-use Rattle.request.proofs.LawsVerdict.{WithStatus, verdict-reach, verdict-status}
+use Rattle.request.proofs.LawsVerdict.{VerdictStatus, verdict-reach, verdict-status}
 use Rattle.method.specs.declared.outcome.Outcome.{Outcome}
 use Rattle.method.specs.declared.outcome.Outcome.the-variants.{Done, Refused}
 use Rattle.method.specs.Perform.{perform}
@@ -29,7 +29,7 @@ use Rattle.command.specs.Decision.{Judged, stopped, noop, reset, success
 use Rattle.command.proofs.LawsContent.{content-size}
 
 abbrev pub Sound : View → Judged → Type 0
-Sound v (stopped s) = Refusal s
+Sound v (stopped s) = RefusalStatus s
 Sound v noop = Unit {0}
 Sound v reset = Unit {0}
 Sound v (success e l reply) = LinkFacts l × (l .status ≡ v .link .status) × (3 ≤ length reply) × (length reply ≤ maxReply)
@@ -47,7 +47,7 @@ module _ (v : View) (s : settingsRule (v .settings) ≡ true) (t : linkRule (v .
       let size = replied-size (after v x l) h c r p (content-size v c r p x s t rule e) in
       (kept .facts, kept .same, size .0, size .1)
 
-  judged-by : (b : List ℕ) (w : Verdict) → verdictOf b ≡ w → WithStatus w → Sound v (judgedBy v b w)
+  judged-by : (b : List ℕ) (w : Verdict) → verdictOf b ≡ w → VerdictStatus w → Sound v (judgedBy v b w)
   unfolding judgedBy reached
   judged-by b (verdict.Refuse step x) e refusal = refusal
   judged-by b verdict.Noop e refusal = tt

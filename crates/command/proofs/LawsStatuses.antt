@@ -11,7 +11,7 @@ use Rattle.octets.specs.Body.{headerOf}
 use Rattle.octets.proofs.LawsTests.{impossible}
 use Rattle.packed.specs.Packed.{packed, packedIn, numberIn, packedAt}
 use Rattle.packed.proofs.ReadsBack.{reads-back}
-use Rattle.property.specs.Status.{maxStatus, resetStatus, Refusal}
+use Rattle.property.specs.Status.{maxStatus, resetStatus, RefusalStatus}
 use Rattle.property.specs.Row.{rows, read-only, lookupIn, lookup, allows}
 use Rattle.property.specs.declared.commands.Command.{Command}
 use Rattle.property.specs.declared.commands.Command.the-variants.{Get, Set, Insert, Remove}
@@ -77,7 +77,7 @@ pub one-status : (h s g x : ℕ) → statusReply h s ≡ statusReply g x → s �
 unfolding statusReply
 one-status h s g x e = ap (λ xs. getD xs 3 0) e
 
-module _ (P : ℕ → Type 0) (zero : P 0) (announced : P resetStatus) (refusals : (s : ℕ) → Refusal s → P s) where
+module _ (P : ℕ → Type 0) (zero : P 0) (announced : P resetStatus) (refusals : (s : ℕ) → RefusalStatus s → P s) where
   module _ (v : View) (s : settingsRule (v .settings) ≡ true) (t : linkRule (v .link) ≡ true) (held : P (v .link .status)) where
     left-by : (h : ℕ) (j : Judged) → Sound v j → P (decisionOf v h j .link .status)
     unfolding decisionOf statusDecision

@@ -73,7 +73,7 @@ other-link d b k h few n =
     by (Powered x) = unfold moved effectItem viewStep in refl
 
 -- both at once: the view of link k goes on by what the body is to it
-pub step-view : (d : Device) (b : List ℕ) (k : ℕ) → length (d .links) ≡ maxLinks → k < maxLinks
+step-view : (d : Device) (b : List ℕ) (k : ℕ) → length (d .links) ≡ maxLinks → k < maxLinks
     → viewOf k (deviceStep d b) ≡ viewAfter (viewOf k d) (itemOf (d .settings) k b)
 unfolding itemOf viewAfter
 step-view d b k h few =

@@ -1,4 +1,5 @@
--- PROMISE: a command leaves a link that keeps its rules, with the last status that it had, and refuses with a status of 01's.
+-- PROMISE: a command leaves a link that keeps its rules, with the last status that it had, and refuses with one of the nine statuses of
+-- steps 2 to 8.
 use mathlib.Core.Path.{_≡_, refl, sym, _∙_}
 use mathlib.Core.Bool.{Bool, true, false, not}
 use mathlib.Core.List.{List, _++_}
@@ -14,7 +15,7 @@ use Rattle.octets.specs.Padding.{pad}
 use Rattle.octets.proofs.LawsPadding.{pad-length, pad-front, pad-zeros}
 use Rattle.octets.proofs.LawsScanning.{all-at, all-of}
 use Rattle.octets.proofs.LawsTests.{by-test, chosen, and-l, and-r, impossible}
-use Rattle.property.specs.Status.{Refusal, invalid-argument, invalid-state, parse-error, nomem, already, item-not-found, invalid-command-for-prop}
+use Rattle.property.specs.Status.{RefusalStatus, invalid-argument, invalid-state, parse-error, nomem, already, item-not-found, invalid-command-for-prop}
 use Rattle.property.specs.Number.{numberAt, powerState, within, slotCount}
 use Rattle.property.specs.declared.number.Number.{Number as Numeric}
 use Rattle.property.specs.declared.commands.Command.{Command}
@@ -43,14 +44,14 @@ use Rattle.method.proofs.StackAndInterface.{conflict-test}
 use Rattle.method.proofs.LawsNumbers.{value-within}
 use Rattle.method.proofs.LawsItems.{distinct-snoc, distinct-less, ports-snoc, ports-without, length-without}
 
-abbrev pub WithStatus : Outcome → Type 0
-WithStatus (Done e) = Unit {0}
-WithStatus (Refused s) = Refusal s
+abbrev pub OutcomeStatus : Outcome → Type 0
+OutcomeStatus (Done e) = Unit {0}
+OutcomeStatus (Refused s) = RefusalStatus s
 
 pub record Kept (l : Link) (r : Performed) : Type 0 where
   pub facts : LinkFacts (r .link)
   pub same : r .link .status ≡ l .status
-  pub refusal : WithStatus (r .outcome)
+  pub refusal : OutcomeStatus (r .outcome)
 
 -- ---- what is put into its array keeps its rule
 
@@ -70,7 +71,7 @@ sized-with l xs few t =
 
 -- ---- numbers
 
-bad-refused : (n : Numeric) (p : List ℕ) (s : ℕ) → Refusal (n .outside) → valueIn n p ≡ Bad s → Refusal s
+bad-refused : (n : Numeric) (p : List ℕ) (s : ℕ) → RefusalStatus (n .outside) → valueIn n p ≡ Bad s → RefusalStatus s
 unfolding valueIn
 bad-refused n p s h e =
     by-test (eqb (length p) (n .width))
@@ -96,7 +97,7 @@ module _ (l : Link) (t : linkRule l ≡ true) where
   kept-done : Kept l (done l)
   kept-done = record { facts = f; same = refl; refusal = tt }
 
-  kept-refused : {s : ℕ} → Refusal s → Kept l (refused l s)
+  kept-refused : {s : ℕ} → RefusalStatus s → Kept l (refused l s)
   kept-refused h = record { facts = f; same = refl; refusal = h }
 
   kept-name : (xs : List ℕ) → isText maxName xs ≡ true → Kept l (done (withName l (heldFrom xs)))

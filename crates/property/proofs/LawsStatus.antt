@@ -3,10 +3,10 @@ use mathlib.Core.Path.{_≡_, refl}
 use mathlib.Core.Bool.{true}
 use Prim.Native.Nat.{ℕ}
 use lib.Dec.{leb}
-use Rattle.property.specs.Status.{maxStatus, Refusal, invalid-argument, invalid-state, invalid-command, parse-error, nomem, prop-not-found, already, item-not-found, invalid-command-for-prop}
+use Rattle.property.specs.Status.{maxStatus, RefusalStatus, invalid-argument, invalid-state, invalid-command, parse-error, nomem, prop-not-found, already, item-not-found, invalid-command-for-prop}
 
 -- what holds of each of the nine holds of any
-pub by-status : (P : ℕ → Type 0) → P 3 → P 4 → P 5 → P 9 → P 11 → P 13 → P 19 → P 20 → P 21 → (s : ℕ) → Refusal s → P s
+pub by-status : (P : ℕ → Type 0) → P 3 → P 4 → P 5 → P 9 → P 11 → P 13 → P 19 → P 20 → P 21 → (s : ℕ) → RefusalStatus s → P s
 by-status P p3 p4 p5 p9 p11 p13 p19 p20 p21 _ invalid-argument = p3
 by-status P p3 p4 p5 p9 p11 p13 p19 p20 p21 _ invalid-state = p4
 by-status P p3 p4 p5 p9 p11 p13 p19 p20 p21 _ invalid-command = p5
@@ -18,5 +18,5 @@ by-status P p3 p4 p5 p9 p11 p13 p19 p20 p21 _ item-not-found = p20
 by-status P p3 p4 p5 p9 p11 p13 p19 p20 p21 _ invalid-command-for-prop = p21
 
 -- a link can hold it as its last status
-pub refusal-most : (s : ℕ) → Refusal s → leb s maxStatus ≡ true
+pub refusal-most : (s : ℕ) → RefusalStatus s → leb s maxStatus ≡ true
 refusal-most s r = by-status (λ x. leb x maxStatus ≡ true) refl refl refl refl refl refl refl refl refl s r

@@ -13,7 +13,7 @@ use lib.Seq.{drop-cons}
 use Rattle.octets.specs.Scanning.{allFrom, allBelow}
 use Rattle.octets.proofs.LawsScanning.{all-at}
 use Rattle.octets.proofs.LawsTests.{by-test, chosen, and-l, and-r}
-use Rattle.property.specs.Status.{Refusal, parse-error, invalid-argument}
+use Rattle.property.specs.Status.{RefusalStatus, parse-error, invalid-argument}
 use Rattle.property.specs.declared.row.Kind.{Kind}
 use Rattle.property.specs.declared.row.Kind.the-variants.{Power, Number}
 use Rattle.property.specs.declared.row.Row.{Row}
@@ -105,14 +105,14 @@ slot-below r slot e t = ltb-true slot slotCount (and-l (ltb slot slotCount) _ (k
 pub width-most : (n : Numeric) → numberRule n ≡ true → n .width ≤ 4
 width-most n t = leb-true (n .width) 4 (and-l (leb (n .width) 4) _ (and-r (leb 1 (n .width)) _ t))
 
-three-or-nine : (s : ℕ) → (eqb s 3 || eqb s 9) ≡ true → Refusal s
+three-or-nine : (s : ℕ) → (eqb s 3 || eqb s 9) ≡ true → RefusalStatus s
 three-or-nine s t =
     by-test (eqb s 3)
     (λ e. let three = eqb-true s 3 e in rw three invalid-argument)
     (λ e. let nine = eqb-true s 9 (rw e at t) in rw nine parse-error)
 
--- a value outside is refused as 01 says
-pub outside-refused : (n : Numeric) → numberRule n ≡ true → Refusal (n .outside)
+-- a value outside is refused with one of the nine statuses
+pub outside-refused : (n : Numeric) → numberRule n ≡ true → RefusalStatus (n .outside)
 outside-refused n t =
     three-or-nine (n .outside)
     (and-l (eqb (n .outside) 3 || eqb (n .outside) 9) _

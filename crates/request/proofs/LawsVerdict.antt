@@ -12,7 +12,7 @@ use Rattle.packed.specs.Packed.{packedAt}
 use Rattle.packed.specs.declared.Packed.{Packed}
 use Rattle.packed.specs.declared.Packed.the-variants.{Number, Unreadable}
 use Rattle.packed.proofs.OneSpelling.{place-after, one-octet}
-use Rattle.property.specs.Status.{Refusal, invalid-command, parse-error, prop-not-found, invalid-command-for-prop}
+use Rattle.property.specs.Status.{RefusalStatus, invalid-command, parse-error, prop-not-found, invalid-command-for-prop}
 use Rattle.property.specs.Row.{lookup, allows}
 use Rattle.property.specs.Rule.{rowRule}
 use Rattle.property.specs.declared.commands.Command.{Command}
@@ -113,30 +113,30 @@ verdict-reset b e = command-reset b (packedAt b 1) refl e
 
 -- ---- the statuses of steps 2 to 5
 
-abbrev pub WithStatus : Verdict → Type 0
-WithStatus (Refuse step s) = Refusal s
-WithStatus Noop = Unit {0}
-WithStatus Reset = Unit {0}
-WithStatus (Reach c r start) = Unit {0}
+abbrev pub VerdictStatus : Verdict → Type 0
+VerdictStatus (Refuse step s) = RefusalStatus s
+VerdictStatus Noop = Unit {0}
+VerdictStatus Reset = Unit {0}
+VerdictStatus (Reach c r start) = Unit {0}
 
-row-status : (c : Command) (start : ℕ) (f : Found) → WithStatus (byRow c start f)
+row-status : (c : Command) (start : ℕ) (f : Found) → VerdictStatus (byRow c start f)
 unfolding byRow
 row-status c start Unknown = prop-not-found
-row-status c start (At r) = chosen WithStatus (allows r c) (λ _. tt) (λ _. invalid-command-for-prop)
+row-status c start (At r) = chosen VerdictStatus (allows r c) (λ _. tt) (λ _. invalid-command-for-prop)
 
-property-status : (c : Command) (q : Packed) → WithStatus (byProperty c q)
+property-status : (c : Command) (q : Packed) → VerdictStatus (byProperty c q)
 unfolding byProperty
 property-status c Unreadable = parse-error
 property-status c (Number id start) = row-status c start (lookup id)
 
-command-status : (b : List ℕ) (q : Packed) → WithStatus (byCommand b q)
+command-status : (b : List ℕ) (q : Packed) → VerdictStatus (byCommand b q)
 unfolding byCommand
 command-status b Unreadable = parse-error
 command-status b (Number n next) =
-    chosen WithStatus (eqb n 0) (λ _. tt)
-    (λ _. chosen WithStatus (eqb n 1) (λ _. tt)
-    (λ _. chosen WithStatus (ltb 5 n) (λ _. invalid-command) (λ _. property-status (commandOf n) (packedAt b next))))
+    chosen VerdictStatus (eqb n 0) (λ _. tt)
+    (λ _. chosen VerdictStatus (eqb n 1) (λ _. tt)
+    (λ _. chosen VerdictStatus (ltb 5 n) (λ _. invalid-command) (λ _. property-status (commandOf n) (packedAt b next))))
 
-pub verdict-status : (b : List ℕ) → WithStatus (verdict b)
+pub verdict-status : (b : List ℕ) → VerdictStatus (verdict b)
 unfolding verdict
 verdict-status b = command-status b (packedAt b 1)

@@ -1,5 +1,5 @@
 -- PROMISE: with an output of 128 octets or more, the receiving call is the one before framing, and what that wrote stands framed in the
--- output. The two differ in nothing else. 128 is what the frame of the longest reply body may take, "at most 2n+6 octets framed".
+-- output. The two differ in nothing else. 128 is 01's "at most 2n+6 octets framed" for the longest reply body.
 use mathlib.Core.Path.{_≡_, refl}
 use mathlib.Core.List.{List}
 use Prim.Native.Nat.{ℕ, _+_, _*_, _≤_}
