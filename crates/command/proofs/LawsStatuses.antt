@@ -77,39 +77,39 @@ pub one-status : (h s g x : ℕ) → statusReply h s ≡ statusReply g x → s �
 unfolding statusReply
 one-status h s g x e = ap (λ xs. getD xs 3 0) e
 
-module _ (P : ℕ → Type 0) (zero : P 0) (announced : P resetStatus) (refusals : (s : ℕ) → RefusalStatus s → P s) where
-  module _ (v : View) (s : settingsRule (v .settings) ≡ true) (t : linkRule (v .link) ≡ true) (held : P (v .link .status)) where
-    left-by : (h : ℕ) (j : Judged) → Sound v j → P (decisionOf v h j .link .status)
-    unfolding decisionOf statusDecision
-    left-by h (stopped y) sound = refusals y sound
-    left-by h noop sound = zero
-    left-by h reset sound = held
-    left-by h (success e l reply) sound = rw (sound .1) held
+module _ (P : ℕ → Type 0) (zero : P 0) (announced : P resetStatus) (refusals : (s : ℕ) → RefusalStatus s → P s)
+    (v : View) (s : settingsRule (v .settings) ≡ true) (t : linkRule (v .link) ≡ true) (held : P (v .link .status)) where
+  left-by : (h : ℕ) (j : Judged) → Sound v j → P (decisionOf v h j .link .status)
+  unfolding decisionOf statusDecision
+  left-by h (stopped y) sound = refusals y sound
+  left-by h noop sound = zero
+  left-by h reset sound = held
+  left-by h (success e l reply) sound = rw (sound .1) held
 
-    pub status-left : (b : List ℕ) → P (decide v b .link .status)
-    unfolding decide
-    status-left b = left-by (headerOf b) (judged v b) (judged-sound v s t b)
+  pub status-left : (b : List ℕ) → P (decide v b .link .status)
+  unfolding decide
+  status-left b = left-by (headerOf b) (judged v b) (judged-sound v s t b)
 
-    concluded-told : (h : ℕ) (c : Command) (r : Row) (p : List ℕ) (l : Link) (o : Outcome) (g x : ℕ)
-        → r .id < 16384 → lookup (r .id) ≡ At r → allows r c ≡ true → Sound v (concluded v h c r p l o)
-        → decisionOf v h (concluded v h c r p l o) .reply ≡ statusReply g x → P x
-    unfolding decisionOf concluded statusDecision
-    concluded-told h c r p l (Refused y) g x few found allowed sound e = rw (← one-status h y g x e) (refusals y sound)
-    concluded-told h c r p l (Done f) g x few found allowed sound e =
-        let small : l .status < 128 = omega (arith, sound .1, leb-true (v .link .status) maxStatus (link-told (v .link) t .status)) in
-        let shown = reads-as-status (after v f l) h c r p g x few found allowed small e in
-        rw (← shown, sound .1) held
+  concluded-told : (h : ℕ) (c : Command) (r : Row) (p : List ℕ) (l : Link) (o : Outcome) (g x : ℕ)
+      → r .id < 16384 → lookup (r .id) ≡ At r → allows r c ≡ true → Sound v (concluded v h c r p l o)
+      → decisionOf v h (concluded v h c r p l o) .reply ≡ statusReply g x → P x
+  unfolding decisionOf concluded statusDecision
+  concluded-told h c r p l (Refused y) g x few found allowed sound e = rw (← one-status h y g x e) (refusals y sound)
+  concluded-told h c r p l (Done f) g x few found allowed sound e =
+      let small : l .status < 128 = omega (arith, sound .1, leb-true (v .link .status) maxStatus (link-told (v .link) t .status)) in
+      let shown = reads-as-status (after v f l) h c r p g x few found allowed small e in
+      rw (← shown, sound .1) held
 
-    told-by : (b : List ℕ) (w : Verdict) → verdictOf b ≡ w → (g x : ℕ) → Sound v (judgedBy v b w)
-        → decisionOf v (headerOf b) (judgedBy v b w) .reply ≡ statusReply g x → P x
-    unfolding judgedBy reached decisionOf statusDecision
-    told-by b (verdict.Refuse step y) w g x sound e = rw (← one-status (headerOf b) y g x e) (refusals y sound)
-    told-by b verdict.Noop w g x sound e = rw (← one-status (headerOf b) 0 g x e) zero
-    told-by b verdict.Reset w g x sound e = rw (← one-status _ resetStatus g x e) announced
-    told-by b (verdict.Reach c r start) w g x sound e =
-        let k = verdict-reach b c r start w in
-        concluded-told (headerOf b) c r (drop start b) _ _ g x (small-id r (k .rule)) (k .found) (k .allowed) sound e
+  told-by : (b : List ℕ) (w : Verdict) → verdictOf b ≡ w → (g x : ℕ) → Sound v (judgedBy v b w)
+      → decisionOf v (headerOf b) (judgedBy v b w) .reply ≡ statusReply g x → P x
+  unfolding judgedBy reached decisionOf statusDecision
+  told-by b (verdict.Refuse step y) w g x sound e = rw (← one-status (headerOf b) y g x e) (refusals y sound)
+  told-by b verdict.Noop w g x sound e = rw (← one-status (headerOf b) 0 g x e) zero
+  told-by b verdict.Reset w g x sound e = rw (← one-status _ resetStatus g x e) announced
+  told-by b (verdict.Reach c r start) w g x sound e =
+      let k = verdict-reach b c r start w in
+      concluded-told (headerOf b) c r (drop start b) _ _ g x (small-id r (k .rule)) (k .found) (k .allowed) sound e
 
-    pub status-told : (b : List ℕ) (g x : ℕ) → decide v b .reply ≡ statusReply g x → P x
-    unfolding decide judged
-    status-told b g x e = told-by b (verdictOf b) refl g x (judged-sound v s t b) e
+  pub status-told : (b : List ℕ) (g x : ℕ) → decide v b .reply ≡ statusReply g x → P x
+  unfolding decide judged
+  status-told b g x e = told-by b (verdictOf b) refl g x (judged-sound v s t b) e

@@ -1,21 +1,34 @@
--- One body's step on the box: what it is by the octets, and what it leaves of the settings and of the number of links.
+-- One body's step on the box: which link it is for, what it is by the octets, and what it leaves of the settings and of the number of links.
 use mathlib.Core.Path.{_≡_, refl, ap, _∙_}
 use mathlib.Core.Bool.{true, false}
 use mathlib.Core.List.{List}
-use Prim.Native.Nat.{ℕ}
+use Prim.Native.Nat.{ℕ, _<_}
+use native.Mathlib.Omega.{arith}
+use borrow.Author.Tests.{ltb-true}
 use lib.ListN.{length, length-set}
 use Rattle.octets.proofs.LawsTests.{by-test}
 use Rattle.device.specs.State.{fresh, maxLinks}
+use Rattle.device.specs.Rules.{linkRule, rules}
 use Rattle.device.specs.declared.state.Link.{Link}
 use Rattle.device.specs.declared.state.Device.{Device}
 use Rattle.device.specs.declared.view.Effect.{Effect}
 use Rattle.device.specs.declared.view.Effect.the-variants.{None, Reset, Powered}
 use Rattle.device.specs.View.{viewOf}
+use Rattle.device.proofs.StateRules.{link-at}
 use Rattle.command.specs.Decision.{decide}
 use Rattle.command.specs.Effects.{effectOf}
 use Rattle.command.proofs.EffectsByOctets.{decide-effect}
 use Rattle.engine.specs.Engine.{linkOf, isSetUp, affect, settled, engine}
 use Rattle.engine.specs.Merged.{deviceStep}
+
+pub link-below : (b : List ℕ) → linkOf b < maxLinks
+unfolding linkOf
+link-below b = omega arith
+
+-- the link of a body keeps its rule where it is set up
+pub own-rule : (d : Device) (b : List ℕ) → rules d ≡ true → isSetUp (d .settings) b ≡ true → linkRule (viewOf (linkOf b) d .link) ≡ true
+unfolding isSetUp
+own-rule d b t e = link-at d t (linkOf b) (ltb-true (linkOf b) (d .settings .links) e)
 
 affect-settings : (e : Effect) (d : Device) (j : ℕ) (l : Link) → affect e d j l .settings ≡ d .settings
 unfolding affect fresh

@@ -28,7 +28,7 @@ use Rattle.command.specs.Effects.{isReset, effectOf}
 use Rattle.engine.specs.Engine.{linkOf, isSetUp, affect, settled, engine}
 use Rattle.engine.specs.Merged.{deviceStep, deviceAfter, whole, effectItem, itemOf, merged, moved, viewStep, viewAfter, replyTo, itemReplies, viewReplies}
 use Rattle.engine.specs.Links.{isAnswered, repliesOn}
-use Rattle.engine.proofs.LawsSteps.{body-set-up, body-not-set-up, step-settings, step-four}
+use Rattle.engine.proofs.LawsSteps.{link-below, body-set-up, body-not-set-up, step-settings, step-four}
 
 -- ---- one body
 
@@ -44,10 +44,6 @@ module _ (d : Device) (size : length (d .links) ≡ maxLinks) (k : ℕ) (few : k
   view-other None j l n = cc (getD-set-other (d .links) j k l noLink n)
   view-other Reset j l n = cc (getD-replicate 4 k freshLink noLink few)
   view-other (Powered x) j l n = cc (getD-set-other (d .links) j k l noLink n)
-
-link-below : (b : List ℕ) → linkOf b < maxLinks
-unfolding linkOf
-link-below b = omega arith
 
 -- the view of a link after a body of its own
 step-own : (d : Device) (b : List ℕ) → length (d .links) ≡ maxLinks → viewOf (linkOf b) (deviceStep d b) ≡ viewStep (viewOf (linkOf b) d) (whole b)

@@ -26,14 +26,14 @@ use Rattle.device.specs.declared.view.Effect.{Effect}
 use Rattle.device.specs.declared.view.Effect.the-variants.{None, Reset, Powered}
 use Rattle.device.specs.View.{viewOf}
 use Rattle.device.proofs.SetupKeepsRules.{device-from-keeps}
-use Rattle.device.proofs.StateRules.{settings-of, link-at, four}
+use Rattle.device.proofs.StateRules.{settings-of, four}
 use Rattle.reply.specs.Reply.{statusReply}
 use Rattle.command.specs.Effects.{effectOf}
 use Rattle.command.proofs.LawsStatuses.{one-status, status-left, status-told}
 use Rattle.engine.specs.Engine.{linkOf, isSetUp, affect, Response, settled, engine}
 use Rattle.engine.specs.Merged.{deviceStep, deviceAfter}
 use Rattle.engine.proofs.RulesKept.{body-keeps, bodies-keep}
-use Rattle.engine.proofs.LawsSteps.{body-set-up, body-not-set-up}
+use Rattle.engine.proofs.LawsSteps.{link-below, own-rule, body-set-up, body-not-set-up}
 use Rattle.engine.proofs.StepNine.{refusalStatuses}
 
 abbrev pub heldStatuses : List ℕ
@@ -90,30 +90,21 @@ module _ (d : Device) (t : rules d ≡ true) (known : AllKnown d) where
   known-affect Reset k l few own = known-fresh (d .settings)
   known-affect (Powered x) k l few own = known-set k l few own
 
-  module _ (b : List ℕ) where
-    below : linkOf b < maxLinks
-    unfolding linkOf
-    below = omega arith
+  known-step : (b : List ℕ) → AllKnown (deviceStep d b)
+  known-step b =
+      by-test (isSetUp (d .settings) b)
+      (λ e. rw (body-set-up d b e)
+      (known-affect (effectOf b) (linkOf b) _ (link-below b)
+      (status-left Known zero announced refusals (viewOf (linkOf b) d) (settings-of d t) (own-rule d b t e) (known (linkOf b) (link-below b)) b)))
+      (λ e. rw (body-not-set-up d b e) known)
 
-    up : isSetUp (d .settings) b ≡ true → linkOf b < d .settings .links
-    unfolding isSetUp
-    up e = ltb-true (linkOf b) (d .settings .links) e
-
-    known-step : AllKnown (deviceStep d b)
-    known-step =
-        by-test (isSetUp (d .settings) b)
-        (λ e. rw (body-set-up d b e)
-        (known-affect (effectOf b) (linkOf b) _ below
-        (status-left Known zero announced refusals (viewOf (linkOf b) d) (settings-of d t) (link-at d t (linkOf b) (up e)) (known (linkOf b) below) b)))
-        (λ e. rw (body-not-set-up d b e) known)
-
-    reply-told : (g x : ℕ) → engine d b .reply ≡ statusReply g x → holds x toldStatuses ≡ true
-    unfolding engine settled
-    reply-told g x =
-        chosen (λ (a : Response). a .reply ≡ statusReply g x → holds x toldStatuses ≡ true) (isSetUp (d .settings) b)
-        (λ e q. more x 6 heldStatuses
-        (status-told Known zero announced refusals (viewOf (linkOf b) d) (settings-of d t) (link-at d t (linkOf b) (up e)) (known (linkOf b) below) b g x q))
-        (λ e q. rw (← one-status (headerOf b) 6 g x q) six)
+  reply-told : (b : List ℕ) (g x : ℕ) → engine d b .reply ≡ statusReply g x → holds x toldStatuses ≡ true
+  unfolding engine settled
+  reply-told b g x =
+      chosen (λ (a : Response). a .reply ≡ statusReply g x → holds x toldStatuses ≡ true) (isSetUp (d .settings) b)
+      (λ e q. more x 6 heldStatuses
+      (status-told Known zero announced refusals (viewOf (linkOf b) d) (settings-of d t) (own-rule d b t e) (known (linkOf b) (link-below b)) b g x q))
+      (λ e q. rw (← one-status (headerOf b) 6 g x q) six)
 
 -- ---- from setup on
 

@@ -3,8 +3,8 @@
 use mathlib.Core.Path.{_≡_, refl}
 use mathlib.Core.Bool.{true, false, cond}
 use mathlib.Core.List.{List, [], _∷_}
-use Prim.Native.Nat.{ℕ}
-use borrow.Author.Tests.{le-ltb, ltb-true}
+use Prim.Native.Nat.{ℕ, _<_}
+use borrow.Author.Tests.{le-ltb, lt-ltb}
 use lib.Dec.{ltb}
 use lib.ListN.{length}
 use Rattle.octets.specs.Finding.{before}
@@ -13,13 +13,16 @@ use Rattle.property.proofs.LawsStatus.{by-status}
 use Rattle.device.specs.State.{maxReply}
 use Rattle.device.specs.Ports.{holds}
 use Rattle.device.specs.Rules.{settingsRule, linkRule, rules}
+use Rattle.device.specs.declared.state.Link.{Link}
 use Rattle.device.specs.declared.state.Device.{Device}
 use Rattle.device.specs.declared.view.View.{View}
+use Rattle.device.specs.declared.view.Effect.{Effect}
 use Rattle.device.specs.View.{viewOf}
-use Rattle.device.proofs.StateRules.{settings-of, link-at}
+use Rattle.device.proofs.StateRules.{settings-of}
 use Rattle.command.specs.Decision.{Judged, stopped, noop, reset, success, judged}
 use Rattle.command.proofs.LawsJudged.{Sound, judged-sound}
 use Rattle.engine.specs.Engine.{linkOf, isSetUp}
+use Rattle.engine.proofs.LawsSteps.{own-rule}
 
 -- ---- the step as 01 had it, after the others
 
@@ -28,6 +31,10 @@ stepNine (stopped s) = stopped s
 stepNine noop = noop
 stepNine reset = reset
 stepNine (success e l reply) = cond (ltb maxReply (length reply)) (stopped 7) (success e l reply)
+
+-- "a reply body over 61 octets: 7": it is not idle by itself
+pub step-nine-stops : (e : Effect) (l : Link) (reply : List ℕ) → 61 < length reply → stepNine (success e l reply) ≡ stopped 7
+step-nine-stops e l reply long = rw (lt-ltb maxReply (length reply) long)
 
 idle : (v : View) (j : Judged) → Sound v j → stepNine j ≡ j
 idle v (stopped s) t = refl
@@ -52,11 +59,10 @@ refusalStatuses = 3 ∷ 4 ∷ 5 ∷ 9 ∷ 11 ∷ 13 ∷ 19 ∷ 20 ∷ 21 ∷ []
 
 pub refusal-statuses : (d : Device) (b : List ℕ) (s : ℕ) → rules d ≡ true → RefusedWith d b s
     → holds s (cond (isSetUp (d .settings) b) refusalStatuses (6 ∷ [])) ≡ true
-unfolding holds before isSetUp
+unfolding holds before
 refusal-statuses d b _ t (link-not-set-up e) = rw e
 refusal-statuses d b s t (on-link e j) =
-    let up = ltb-true (linkOf b) (d .settings .links) e in
-    let sound = rw j at (judged-sound (viewOf (linkOf b) d) (settings-of d t) (link-at d t (linkOf b) up) b) in
+    let sound = rw j at (judged-sound (viewOf (linkOf b) d) (settings-of d t) (own-rule d b t e) b) in
     rw e (by-status (λ x. holds x refusalStatuses ≡ true) refl refl refl refl refl refl refl refl refl s sound)
 
 pub never-seven : (d : Device) (b : List ℕ) → rules d ≡ true → RefusedWith d b 7 → ⊥
