@@ -5,9 +5,9 @@ use Prim.Native.Nat.{ℕ, zero, suc, _+_, _*_, _-_, _/_, _%_, _^_, _<_, _≤_}
 use native.Mathlib.Omega.{arith}
 use native.Mathlib.Nat.{pow-succ', pow-le-pow-right}
 use lib.ListN.{length, getD, take, drop, set, length-drop, drop-of-length-le}
-use lib.Seq.{sets, drop-cons, getD-take, getD-drop, length-take-le}
+use lib.Seq.{sets, drop-cons, drop-drop, getD-take, getD-drop, length-take-le}
 use Rattle.octets.specs.Octets.{Octets}
-use Rattle.octets.specs.LittleEndian.{le, leOctets}
+use Rattle.octets.specs.LittleEndian.{le, leAt, leOctets}
 use Rattle.octets.proofs.LawsLists.{octets-drop, octets-take}
 
 pub length-le : (width n : ℕ) → length (leOctets width n) ≡ width
@@ -71,3 +71,10 @@ le-put l at i width n h =
 pub le-done : (l : List ℕ) (at k n : ℕ) → k ≡ 0 → sets l at (leOctets k n) ≡ l
 unfolding leOctets
 le-done l at k n e = rw e
+
+-- ---- what stands from a place on
+
+-- a number's place, counted from there
+pub le-drop : (xs : List ℕ) (at i width : ℕ) → leAt (drop at xs) i width ≡ leAt xs (at + i) width
+unfolding leAt
+le-drop xs at i width = rw (drop-drop i at xs)

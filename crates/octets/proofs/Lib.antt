@@ -3,6 +3,7 @@ pub mod LawsRanges
 pub mod LawsLists
 pub mod LawsFinding
 pub mod LawsScanning
+pub mod LawsComparing
 pub mod LawsPadding
 pub mod LawsRuns
 pub mod LawsWriting

@@ -4,6 +4,7 @@ pub mod LittleEndian
 pub mod Writing
 pub mod Finding
 pub mod Scanning
+pub mod Comparing
 pub mod Ranges
 pub mod Padding
 pub mod Body

@@ -1,9 +1,9 @@
 -- What setup returns for these settings.
 use mathlib.Core.Path.{ap}
 use borrow.Author.Needs.{needs}
 use Rattle.engine.specs.Marked.{freshBox}
-use Rattle.ncp.proofs.two_links.Statement.{statement}
-use Rattle.ncp.proofs.two_links.Tie as tie
+use Rattle.engine.proofs.marked.two_links.Statement.{statement}
+use Rattle.engine.proofs.marked.two_links.Tie as tie
 
 pub two-links-spec : {M : Type 1} → statement M
 unfolding freshBox

@@ -1,0 +1,86 @@
+-- PROMISE: 02's numbers of all answers, each with its reason: "order 22, 21, 23 when reading".
+use mathlib.Core.Path.{_≡_, refl, ap, _∙_}
+use mathlib.Core.Bool.{Bool, true, false}
+use mathlib.Core.List.{List}
+use Prim.Native.Nat.{ℕ, _+_, _≤_, _<_}
+use native.Mathlib.Omega.{arith}
+use native.Mathlib.Nat.{add-zero, add-assoc}
+use borrow.Author.Tests.{eq-eqb, ne-eqb, lt-ltb, le-ltb, eqb-true}
+use lib.Dec.{eqb}
+use lib.ListN.{length, getD, drop, length-drop}
+use lib.Seq.{getD-drop}
+use Rattle.octets.specs.LittleEndian.{leAt}
+use Rattle.octets.proofs.LawsLittleEndian.{le-drop}
+use Rattle.octets.proofs.LawsTests.{by-test}
+use Rattle.capture.specs.Records.{isInRange}
+use Rattle.capture.specs.Reading.{one, none, hasMark, directionIn, lengthIn, recordIn, readFront, moved, placed, readAt}
+use Rattle.capture.proofs.LawsReading.{front-end, front-few, front-mark, front-range, front-cut, front-whole}
+
+module _ (log : List ℕ) (at : ℕ) where
+  pub past-end : length log < at → readAt log at ≡ none 22
+  unfolding readAt
+  past-end h = rw (lt-ltb (length log) at h)
+
+  from-place : at ≤ length log → readAt log at ≡ placed at (readFront (drop at log))
+  unfolding readAt
+  from-place h = rw (le-ltb (length log) at h)
+
+  -- the answer of what stands from the place on
+  by-front : {n : ℕ} → at ≤ length log → readFront (drop at log) ≡ none n → readAt log at ≡ none n
+  unfolding placed
+  by-front h e = from-place h ∙ ap (placed at) e
+
+  pub at-end : length log ≡ at → readAt log at ≡ none 0
+  at-end h = by-front (omega arith) (front-end (drop at log) (omega (arith, length-drop at log)))
+
+  pub under-five : at < length log → length log < at + 5 → readAt log at ≡ none 22
+  under-five h k = by-front (omega arith) (front-few (drop at log) (omega (arith, length-drop at log)) (omega (arith, length-drop at log)))
+
+  module _ (head : at + 5 ≤ length log) where
+    inside : at ≤ length log
+    inside = omega arith
+
+    long : 5 ≤ length (drop at log)
+    long = omega (arith, length-drop at log)
+
+    first : getD (drop at log) 0 0 ≡ getD log at 0
+    first = getD-drop at log 0 0 ∙ ap (λ k. getD log k 0) (add-zero at)
+
+    second : getD (drop at log) 1 0 ≡ getD log (at + 1) 0
+    second = getD-drop at log 1 0
+
+    pub bad-mark : (getD log at 0 ≡ 0x53 → getD log (at + 1) 0 ≡ 0x50 → ⊥) → readAt log at ≡ none 21
+    unfolding hasMark
+    bad-mark other =
+        by-front inside
+        (front-mark (drop at log) long
+        (rw (first, second)
+        (by-test (eqb (getD log at 0) 0x53)
+        (λ p. rw (p, ne-eqb (getD log (at + 1) 0) 0x50 (other (eqb-true (getD log at 0) 0x53 p))))
+        (λ p. rw p))))
+
+    module _ (one-is : getD log at 0 ≡ 0x53) (two-is : getD log (at + 1) 0 ≡ 0x50) where
+      mark : hasMark (drop at log) ≡ true
+      unfolding hasMark
+      mark = rw (first, second, one-is, two-is)
+
+      -- a range is that of the octets from the place on
+      range : {b : Bool} → isInRange (getD log (at + 2) 0) (leAt log (at + 3) 2) ≡ b → isInRange (directionIn (drop at log)) (lengthIn (drop at log)) ≡ b
+      range r = rw (getD-drop at log 2 0, le-drop log at 3 2) r
+
+      pub out-of-range : isInRange (getD log (at + 2) 0) (leAt log (at + 3) 2) ≡ false → readAt log at ≡ none 23
+      out-of-range r = by-front inside (front-range (drop at log) long mark (range r))
+
+      module _ (r : isInRange (getD log (at + 2) 0) (leAt log (at + 3) 2) ≡ true) where
+        pub body-cut : length log < at + 5 + leAt log (at + 3) 2 → readAt log at ≡ none 22
+        body-cut l =
+            by-front inside (front-cut (drop at log) long mark (range r) (omega (arith, length-drop at log, le-drop log at 3 2)))
+
+        pub whole : at + 5 + leAt log (at + 3) 2 ≤ length log
+            → readAt log at
+            ≡ one (record { direction = getD log (at + 2) 0; start = at + 5; len = leAt log (at + 3) 2; next = at + 5 + leAt log (at + 3) 2 })
+        unfolding placed
+        whole l =
+            from-place inside
+            ∙ ap (placed at) (front-whole (drop at log) long mark (range r) (omega (arith, length-drop at log, le-drop log at 3 2)))
+            ∙ rw (getD-drop at log 2 0, le-drop log at 3 2, add-assoc at 5 (leAt log (at + 3) 2))

@@ -1,0 +1,8 @@
+pub mod LawsRecords
+pub mod LawsReading
+pub mod LawsWriting
+pub mod LawsLogs
+pub mod Answers
+pub mod OneRecord
+pub mod RoundTrip
+pub mod WholeLogs

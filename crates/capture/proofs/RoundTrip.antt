@@ -1,0 +1,122 @@
+-- PROMISE: "Any list of good records written is read back the same."
+use mathlib.Core.Path.{_≡_, refl, sym, ap, ap₂, _∙_}
+use mathlib.Core.Bool.{true}
+use mathlib.Core.List.{List, [], _∷_, _++_, append-assoc, append-nil, foldl}
+use Prim.Native.Nat.{ℕ, _+_, _≤_}
+use native.Mathlib.Omega.{arith}
+use borrow.Author.Tests.{le-ltb}
+use lib.ListN.{length, take, drop, length-append}
+use lib.Seq.{sets, length-sets, take-at, drop-at, take-append-seam, drop-append-seam}
+use Rattle.octets.specs.Runs.{each, emitted}
+use Rattle.octets.specs.LittleEndian.{leOctets}
+use Rattle.octets.proofs.LawsLittleEndian.{length-le}
+use Rattle.octets.proofs.LawsWriting.{sets-append, sets-front}
+use Rattle.capture.specs.declared.records.Record.{Record}
+use Rattle.capture.specs.Records.{Entry, recordOf, headSize, Good}
+use Rattle.capture.specs.Reading.{one, none, hasMark, directionIn, lengthIn, recordIn, readFront, moved, placed, readAt}
+use Rattle.capture.specs.Writing.{Report, put, writing}
+use Rattle.capture.specs.Logs.{logOf, AllGood, none as no-entry, more, entryOf, Entries, after, entriesIn, start, writeNext, numbersFrom, writeAll}
+use Rattle.capture.proofs.LawsRecords.{record-length, good-range, length-back}
+use Rattle.capture.proofs.LawsReading.{front-whole, front-end}
+use Rattle.capture.proofs.LawsWriting.{write-put}
+use Rattle.capture.proofs.LawsLogs.{entries-end, entries-next}
+
+-- ---- one record, whatever stands behind it
+
+-- where its parts stand, counted from its first octet
+abbrev pub parts : Entry → Record
+parts e = record { direction = e .direction; start = 5; len = length (e .body); next = 5 + length (e .body) }
+
+module _ (e : Entry) (rest : List ℕ) (g : Good e) where
+  front-back : readFront (recordOf e ++ rest) ≡ one (parts e)
+  unfolding recordOf hasMark
+  front-back =
+      let xs : List ℕ = recordOf e ++ rest in
+      let n : lengthIn xs ≡ length (e .body) = length-back e rest g in
+      let size : length xs ≡ 5 + length (e .body) + length rest = length-append (recordOf e) rest ∙ ap (λ k. k + length rest) (record-length e) in
+      front-whole xs (omega arith) refl (rw n (good-range g)) (omega arith)
+      ∙ ap (λ k. one (record { direction = e .direction; start = 5; len = k; next = 5 + k })) n
+
+  held-back : entryOf (recordOf e ++ rest) (parts e) ≡ e
+  unfolding entryOf recordOf
+  held-back =
+      let n : ℕ = length (e .body) in
+      ap (λ b. record { direction = e .direction; body = b })
+      (ap (λ xs. take n (drop 2 xs)) (append-assoc (leOctets 2 n) (e .body) rest)
+      ∙ ap (take n) (drop-at (leOctets 2 n) (e .body ++ rest) 2 (length-le 2 n))
+      ∙ take-append-seam (e .body) rest)
+
+  rest-back : drop (5 + length (e .body)) (recordOf e ++ rest) ≡ rest
+  rest-back = drop-at (recordOf e) rest _ (record-length e)
+
+-- so wherever it stands in a log
+pub record-back : (before after : List ℕ) (e : Entry) → Good e
+    → readAt (before ++ (recordOf e ++ after)) (length before) ≡ one (moved (length before) (parts e))
+unfolding readAt placed
+record-back before after e g =
+    rw (
+      le-ltb (length (before ++ (recordOf e ++ after))) (length before) (omega (arith, length-append before (recordOf e ++ after))),
+      drop-append-seam before (recordOf e ++ after),
+      front-back e after g,
+    )
+
+-- ---- a log
+
+-- a log of good records, and octets behind it: these records, and those of the octets
+pub log-then : {es : List Entry} (rest : List ℕ) → AllGood es
+    → entriesIn (logOf es ++ rest) ≡ record { entries = es ++ entriesIn rest .entries; fault = entriesIn rest .fault }
+unfolding logOf
+log-then rest no-entry = refl
+log-then rest (more {e} {es} g gs) =
+    let xs : List ℕ = logOf es ++ rest in
+    ap entriesIn (append-assoc (recordOf e) (logOf es) rest)
+    ∙ entries-next (recordOf e ++ xs) (front-back e xs g)
+    ∙ ap₂ after (held-back e xs g) (ap entriesIn (rest-back e xs g) ∙ log-then rest gs)
+
+pub log-back : {es : List Entry} → AllGood es → entriesIn (logOf es) ≡ record { entries = es; fault = 0 }
+log-back {es} g =
+    let end : entriesIn [] ≡ record { entries = []; fault = 0 } = entries-end [] (front-end [] refl) in
+    rw (append-nil (logOf es), end, append-nil es) at (log-then [] g)
+
+-- ---- a log that is written record by record
+
+-- from any place, where it fits: each call answers 0 and goes on where the last one stopped
+record WroteAll (w : Report) (es : List Entry) (xs : List ℕ) : Type 0 where
+  numbers : numbersFrom w es ≡ each (λ _. 0 ∷ []) es
+  next : foldl writeNext w es .next ≡ w .next + length xs
+  held : foldl writeNext w es .space ≡ sets (w .space) (w .next) xs
+
+wrote-all : {es : List Entry} (w : Report) → AllGood es → w .next + length (logOf es) ≤ length (w .space) → WroteAll w es (logOf es)
+unfolding logOf writeNext put
+wrote-all w no-entry room = record { numbers = refl; next = omega arith; held = refl }
+wrote-all w (more {e} {es} g gs) room =
+    let size = length-append (recordOf e) (logOf es) in
+    let v : Report = put (w .space) (w .next) (recordOf e) in
+    let first : writeNext w e ≡ v =
+    write-put (w .space) (w .next) (e .direction) (e .body) (good-range g) (omega (arith, size, record-length e)) in
+    let rest = wrote-all v gs (omega (arith, size, length-sets (w .space) (w .next) (recordOf e))) in
+    record {
+      numbers = ap (λ u. u .number ∷ numbersFrom u es) first ∙ ap (λ ns. 0 ∷ ns) (rest .numbers);
+      next = ap (λ u. foldl writeNext u es .next) first ∙ omega (arith, rest .next, size);
+      held = ap (λ u. foldl writeNext u es .space) first ∙ rest .held ∙ sets-append (recordOf e) (w .space) (w .next) (logOf es);
+    }
+
+-- what is written into a space, and what is read from its part up to the last place returned
+pub record WrittenBack (space : List ℕ) (es : List Entry) : Type 0 where
+  pub numbers : numbersFrom (start space) es ≡ each (λ _. 0 ∷ []) es
+  pub next : writeAll space es .next ≡ length (logOf es)
+  pub held : writeAll space es .space ≡ logOf es ++ drop (length (logOf es)) space
+  pub read : entriesIn (take (writeAll space es .next) (writeAll space es .space)) ≡ record { entries = es; fault = 0 }
+
+pub written-back : (space : List ℕ) {es : List Entry} → AllGood es → length (logOf es) ≤ length space → WrittenBack space es
+unfolding writeAll
+written-back space {es} g room =
+    let w = wrote-all (start space) g (omega arith) in
+    let next : foldl writeNext (start space) es .next ≡ length (logOf es) = omega (arith, w .next) in
+    let held : foldl writeNext (start space) es .space ≡ logOf es ++ drop (length (logOf es)) space = w .held ∙ sets-front (logOf es) space room in
+    record {
+      numbers = w .numbers;
+      next = next;
+      held = held;
+      read = rw (next, held, take-append-seam (logOf es) (drop (length (logOf es)) space)) (log-back g);
+    }

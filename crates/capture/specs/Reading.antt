@@ -1,0 +1,69 @@
+-- Reading the record at a place of a log (02, T-05).
+use mathlib.Core.Bool.{Bool, cond, _&&_}
+use mathlib.Core.List.{List, [], _∷_, map}
+use Prim.Native.Nat.{ℕ, _+_}
+use lib.Dec.{eqb, ltb}
+use lib.ListN.{length, getD, drop}
+use Rattle.octets.specs.LittleEndian.{leAt}
+use Rattle.capture.specs.declared.records.Record.{Record}
+use Rattle.capture.specs.declared.reading.Found.{Found}
+use Rattle.capture.specs.declared.reading.Found.the-variants.{At, NoMore, BadMark, CutOff, OutOfRange}
+use Rattle.capture.specs.Records.{headSize, isInRange}
+
+-- ---- an answer by 02's numbers: that of a refusal, else 0; and the record that was found, or none
+
+pub record Report : Type 0 where
+  pub number : ℕ
+  pub found : List Record
+
+abbrev pub one : Record → Report
+one r = record { number = 0; found = r ∷ [] }
+
+abbrev pub none : ℕ → Report
+none n = record { number = n; found = [] }
+
+abbrev pub reported : Found → Report
+reported (At r) = one r
+reported NoMore = none 0
+reported BadMark = none 21
+reported CutOff = none 22
+reported OutOfRange = none 23
+
+-- ---- the record at the front of octets
+
+unfoldable pub hasMark : List ℕ → Bool
+hasMark xs = eqb (getD xs 0 0) 0x53 && eqb (getD xs 1 0) 0x50
+
+abbrev pub directionIn : List ℕ → ℕ
+directionIn xs = getD xs 2 0
+
+-- "a 16-bit little-endian length"
+abbrev pub lengthIn : List ℕ → ℕ
+lengthIn xs = leAt xs 3 2
+
+abbrev pub recordIn : List ℕ → Record
+recordIn xs = record { direction = directionIn xs; start = headSize; len = lengthIn xs; next = headSize + lengthIn xs }
+
+-- "order 22, 21, 23 when reading"; "Cut off means fewer than five octets left or, where mark, direction and length are good, fewer than the
+-- length demands. At the end exactly, the answer is "no more""
+unfoldable pub readFront : List ℕ → Report
+readFront xs =
+    cond (eqb (length xs) 0) (none 0)
+    (cond (ltb (length xs) headSize) (none 22)
+    (cond (hasMark xs)
+    (cond (isInRange (directionIn xs) (lengthIn xs))
+    (cond (ltb (length xs) (headSize + lengthIn xs)) (none 22) (one (recordIn xs)))
+    (none 23))
+    (none 21)))
+
+-- ---- at a place, from which places are counted on
+
+abbrev pub moved : ℕ → Record → Record
+moved n r = record { direction = r .direction; start = n + r .start; len = r .len; next = n + r .next }
+
+unfoldable pub placed : ℕ → Report → Report
+placed n r = record { number = r .number; found = map (moved n) (r .found) }
+
+-- "a place past the end is 22 when reading"
+unfoldable pub readAt : List ℕ → ℕ → Report
+readAt log at = cond (ltb (length log) at) (none 22) (placed at (readFront (drop at log)))
