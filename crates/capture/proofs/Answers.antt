@@ -1,11 +1,11 @@
 -- PROMISE: 02's numbers of all answers, each with its reason: "order 22, 21, 23 when reading".
-use mathlib.Core.Path.{_≡_, refl, ap, _∙_}
+use mathlib.Core.Path.{_≡_, ap, _∙_}
 use mathlib.Core.Bool.{Bool, true, false}
 use mathlib.Core.List.{List}
 use Prim.Native.Nat.{ℕ, _+_, _≤_, _<_}
 use native.Mathlib.Omega.{arith}
 use native.Mathlib.Nat.{add-zero, add-assoc}
-use borrow.Author.Tests.{eq-eqb, ne-eqb, lt-ltb, le-ltb, eqb-true}
+use borrow.Author.Tests.{ne-eqb, lt-ltb, le-ltb, eqb-true}
 use lib.Dec.{eqb}
 use lib.ListN.{length, getD, drop, length-drop}
 use lib.Seq.{getD-drop}
@@ -13,7 +13,7 @@ use Rattle.octets.specs.LittleEndian.{leAt}
 use Rattle.octets.proofs.LawsLittleEndian.{le-drop}
 use Rattle.octets.proofs.LawsTests.{by-test}
 use Rattle.capture.specs.Records.{isInRange}
-use Rattle.capture.specs.Reading.{one, none, hasMark, directionIn, lengthIn, recordIn, readFront, moved, placed, readAt}
+use Rattle.capture.specs.Reading.{one, none, hasMark, directionIn, lengthIn, readFront, placed, readAt}
 use Rattle.capture.proofs.LawsReading.{front-end, front-few, front-mark, front-range, front-cut, front-whole}
 
 module _ (log : List ℕ) (at : ℕ) where

@@ -1,10 +1,9 @@
 -- Laws of a log read from its front: as many steps as there are octets are enough, and what one step gives.
 use mathlib.Core.Path.{_≡_, refl, sym, ap, _∙_}
-use mathlib.Core.List.{List, []}
+use mathlib.Core.List.{List}
 use Prim.Native.Nat.{ℕ, zero, suc, _+_, _≤_}
 use native.Mathlib.Omega.{arith}
 use lib.ListN.{length, drop, length-drop}
-use Rattle.octets.proofs.LawsLists.{empty}
 use Rattle.capture.specs.declared.records.Record.{Record}
 use Rattle.capture.specs.Reading.{Report, one, none, lengthIn, readFront}
 use Rattle.capture.specs.Logs.{entryOf, Entries, ended, after, joined, entriesWithin, entriesIn}

@@ -1,10 +1,11 @@
 -- Laws of records: how long they are, and what is in range.
-use mathlib.Core.Path.{_≡_, sym, ap, _∙_}
+use mathlib.Core.Path.{_≡_, ap, _∙_}
 use mathlib.Core.Bool.{true}
 use mathlib.Core.List.{List, _++_, append-assoc}
 use Prim.Native.Nat.{ℕ, _+_, _≤_}
 use native.Mathlib.Omega.{arith}
 use borrow.Author.Tests.{le-leb, leb-true}
+use lib.Dec.{leb}
 use lib.ListN.{length, take, length-append}
 use lib.Seq.{take-at}
 use Rattle.octets.specs.Body.{minBody, maxBody}
@@ -20,13 +21,15 @@ pub record-length : (e : Entry) → length (recordOf e) ≡ headSize + length (e
 unfolding recordOf
 record-length e = omega (arith, length-append (leOctets 2 (length (e .body))) (e .body), length-le 2 (length (e .body)))
 
-module _ (direction : ℕ) (body : List ℕ) where
-  pub range-good : isInRange direction (length body) ≡ true → Good (entry direction body)
-  unfolding isInRange
-  range-good t =
-      let b = both-told t in
-      let len = inside-told minBody maxBody (length body) (b .1) in
-      record { direction = leb-true direction fromBox (b .0); least = len .0; most = len .1 }
+pub range-told : (direction n : ℕ) → isInRange direction n ≡ true → (direction ≤ fromBox) × (minBody ≤ n) × (n ≤ maxBody)
+unfolding isInRange
+range-told direction n t =
+    let b = both-told {a = leb direction fromBox} t in
+    let size = inside-told minBody maxBody n (b .1) in
+    (leb-true direction fromBox (b .0), size .0, size .1)
+
+pub range-good : (direction : ℕ) (body : List ℕ) → isInRange direction (length body) ≡ true → Good (entry direction body)
+range-good direction body t = let r = range-told direction (length body) t in record { direction = r .0; least = r .1; most = r .2 }
 
 pub good-range : {e : Entry} → Good e → isInRange (e .direction) (length (e .body)) ≡ true
 unfolding isInRange

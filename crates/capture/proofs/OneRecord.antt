@@ -1,8 +1,8 @@
 -- PROMISE: whatever is read as a record is exactly what is written for it, so that a record has one spelling; it lies in the log and goes on by
 -- seven octets at least. And at a place not past the end the answer depends on the octets from it on alone, its places counted from there.
 use mathlib.Core.Path.{_≡_, refl, sym, ap, ap₂, _∙_}
-use mathlib.Core.List.{List, [], _∷_, _++_, map}
-use Prim.Native.Nat.{ℕ, zero, suc, _+_, _-_, _≤_}
+use mathlib.Core.List.{List, [], _∷_, map}
+use Prim.Native.Nat.{ℕ, _+_, _-_, _≤_}
 use native.Mathlib.Omega.{arith}
 use native.Mathlib.Nat.{zero-add}
 use borrow.Author.Tests.{eqb-true, le-ltb, ltb-false}
@@ -15,8 +15,8 @@ use Rattle.octets.proofs.LawsLists.{octets-drop, octets-take}
 use Rattle.octets.proofs.LawsTests.{by-test, both-told, impossible}
 use Rattle.octets.proofs.LittleEndianRoundTrip.{octets-back}
 use Rattle.capture.specs.declared.records.Record.{Record}
-use Rattle.capture.specs.Records.{Entry, entry, recordOf, Good}
-use Rattle.capture.specs.Reading.{Report, one, none, hasMark, directionIn, lengthIn, recordIn, readFront, moved, placed, readAt}
+use Rattle.capture.specs.Records.{entry, recordOf, Good}
+use Rattle.capture.specs.Reading.{Report, one, hasMark, directionIn, lengthIn, recordIn, readFront, moved, placed, readAt}
 use Rattle.capture.specs.Logs.{entryOf}
 use Rattle.capture.proofs.LawsRecords.{range-good}
 use Rattle.capture.proofs.LawsReading.{FrontCase, nothing, found, front-case, Front}

@@ -1,21 +1,20 @@
 -- PROMISE: "Any list of good records written is read back the same."
-use mathlib.Core.Path.{_≡_, refl, sym, ap, ap₂, _∙_}
-use mathlib.Core.Bool.{true}
+use mathlib.Core.Path.{_≡_, refl, ap, ap₂, _∙_}
 use mathlib.Core.List.{List, [], _∷_, _++_, append-assoc, append-nil, foldl}
 use Prim.Native.Nat.{ℕ, _+_, _≤_}
 use native.Mathlib.Omega.{arith}
 use borrow.Author.Tests.{le-ltb}
 use lib.ListN.{length, take, drop, length-append}
-use lib.Seq.{sets, length-sets, take-at, drop-at, take-append-seam, drop-append-seam}
-use Rattle.octets.specs.Runs.{each, emitted}
+use lib.Seq.{sets, length-sets, drop-at, take-append-seam, drop-append-seam}
+use Rattle.octets.specs.Runs.{each}
 use Rattle.octets.specs.LittleEndian.{leOctets}
 use Rattle.octets.proofs.LawsLittleEndian.{length-le}
 use Rattle.octets.proofs.LawsWriting.{sets-append, sets-front}
 use Rattle.capture.specs.declared.records.Record.{Record}
-use Rattle.capture.specs.Records.{Entry, recordOf, headSize, Good}
-use Rattle.capture.specs.Reading.{one, none, hasMark, directionIn, lengthIn, recordIn, readFront, moved, placed, readAt}
-use Rattle.capture.specs.Writing.{Report, put, writing}
-use Rattle.capture.specs.Logs.{logOf, AllGood, none as no-entry, more, entryOf, Entries, after, entriesIn, start, writeNext, numbersFrom, writeAll}
+use Rattle.capture.specs.Records.{Entry, recordOf, Good}
+use Rattle.capture.specs.Reading.{one, hasMark, lengthIn, readFront, moved, placed, readAt}
+use Rattle.capture.specs.Writing.{Report, put}
+use Rattle.capture.specs.Logs.{logOf, AllGood, none as no-entry, more, entryOf, after, entriesIn, start, writeNext, numbersFrom, writeAll}
 use Rattle.capture.proofs.LawsRecords.{record-length, good-range, length-back}
 use Rattle.capture.proofs.LawsReading.{front-whole, front-end}
 use Rattle.capture.proofs.LawsWriting.{write-put}

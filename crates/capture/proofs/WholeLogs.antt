@@ -4,14 +4,14 @@ use mathlib.Core.Path.{_≡_, refl, sym, ap, ap₂, _∙_}
 use mathlib.Core.List.{List, _++_, append-assoc}
 use Prim.Native.Nat.{ℕ, zero, suc, _+_, _≤_}
 use native.Mathlib.Omega.{arith}
-use lib.ListN.{length, take, drop, length-drop, take-append-drop}
+use lib.ListN.{length, drop, length-drop, take-append-drop}
 use lib.Seq.{drop-drop}
 use Rattle.octets.specs.Octets.{Octets}
 use Rattle.octets.proofs.LawsLists.{octets-drop}
 use Rattle.octets.proofs.LawsTests.{impossible}
 use Rattle.capture.specs.declared.records.Record.{Record}
 use Rattle.capture.specs.Records.{recordOf}
-use Rattle.capture.specs.Reading.{Report, one, none, lengthIn, recordIn, readFront, placed, readAt}
+use Rattle.capture.specs.Reading.{Report, one, none, lengthIn, readFront, placed, readAt}
 use Rattle.capture.specs.Logs.{logOf, AllGood, none as no-entry, more, entryOf, Entries, after, ended, entriesIn}
 use Rattle.capture.proofs.LawsReading.{front-whole, FrontCase, nothing, found, front-case, Front}
 use Rattle.capture.proofs.LawsLogs.{entries-end, entries-next}

@@ -11,7 +11,7 @@ ghost use Prim.Native.Nat.{_+_, _≤_};
 ghost use lib.ListN.{length};
 ghost use Rattle.octets.specs.Writing.{Wrote};
 ghost use Rattle.capture.specs.Records.{entry, recordOf, isInRange};
-ghost use Rattle.capture.specs.Writing.{numberOf, reported, writing};
+ghost use Rattle.capture.specs.Writing.{numberOf, nextOf, reported, writing};
 
 pub enum Written {
     // The place after the record.
@@ -31,6 +31,17 @@ impl Written {
             Written::Next(_) => 0,
             Written::OutOfRange => 23,
             Written::NoRoom => 24,
+        }
+    }
+
+    // The place after the record; 0 in a refusal.
+    pub fn next(self) -> usize
+        ensures { λ r. ⌜ r ≡ nextOf self ⌝ }
+    {
+        match self {
+            Written::Next(at) => at,
+            Written::OutOfRange => 0,
+            Written::NoRoom => 0,
         }
     }
 }

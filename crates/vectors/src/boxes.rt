@@ -13,15 +13,15 @@ use crate::text::octets;
 use crate::text::piece;
 use crate::text::pieces;
 use crate::text::place;
-use crate::text::same;
 use device::Device;
 use device::setup;
 use engine::Answered;
 use engine::answer;
+use octets::same_octets;
 
 // As `boxed`, and setup's answer is told.
 pub fn set_up(shown: &[u8], text: &[u8]) -> bool {
-    if same(before(text, b' '), b"links") {
+    if same_octets(before(text, b' '), b"links") {
         return boxed(shown, after(text, b' '), true);
     }
     false

@@ -4,32 +4,19 @@ use crate::text::MAX_OCTETS;
 use crate::text::after;
 use crate::text::before;
 use crate::text::front;
-use crate::text::is_number;
-use crate::text::is_octets;
+use crate::text::is_numbered;
 use crate::text::number;
 use crate::text::octets;
-use crate::text::pieces;
 use diagnosis::Class;
 use diagnosis::classify;
 
 pub fn sorted(shown: &[u8], text: &[u8]) -> bool {
     let mut body = [0u8; MAX_OCTETS];
-    let links = before(text, b':');
-    if is_sorted(text, links) {
+    if is_numbered(text) {
         let n = octets(after(text, b':'), &mut body);
         show::text(shown);
-        tell(classify(number(links), front(&body, n)));
+        tell(classify(number(before(text, b':')), front(&body, n)));
         return true;
-    }
-    false
-}
-
-// Whether a number of links stands before a colon, and octets behind it.
-fn is_sorted(text: &[u8], links: &[u8]) -> bool {
-    if pieces(text, b':') == 2 {
-        if is_number(links, usize::MAX) {
-            return is_octets(after(text, b':'));
-        }
     }
     false
 }

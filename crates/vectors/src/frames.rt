@@ -7,11 +7,11 @@ use crate::text::before;
 use crate::text::front;
 use crate::text::is_octets;
 use crate::text::octets;
-use crate::text::same;
 use frame::fcs16;
 use frame::write_frame;
 use hdlc::Reader;
 use libc::STDOUT_FILENO;
+use octets::same_octets;
 ghost use mathlib.Core.Bool.{true};
 ghost use mathlib.Core.Path.{_≡_};
 ghost use Rattle.octets.specs.Body.{Body};
@@ -29,7 +29,7 @@ pub fn check(shown: &[u8], text: &[u8]) -> bool {
 
 pub fn frame(shown: &[u8], text: &[u8]) -> bool {
     let mut out = [0u8; MAX_OCTETS];
-    if same(before(text, b' '), b"of") {
+    if same_octets(before(text, b' '), b"of") {
         let n = octets(after(text, b' '), &mut out);
         return framed(shown, front(&out, n));
     }

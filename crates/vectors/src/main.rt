@@ -6,6 +6,7 @@ mod classes;
 mod frames;
 mod integers;
 mod receiving;
+mod records;
 mod show;
 mod text;
 mod types;
@@ -19,14 +20,16 @@ use text::front;
 use text::lead;
 use text::place;
 
+const MAX_INPUT: usize = 131072;
+
 fn main() {
-    let mut input = io::large_buffer();
+    let mut input = [0u8; MAX_INPUT];
     let count = io::read_full(STDIN_FILENO, &mut input);
     // A full buffer may not be all.
     if count < input.len() {
         run(front(&input, count));
     } else {
-        show::text(b"not read: more than 65535 octets\n");
+        show::text(b"not read: more than 131071 octets\n");
     }
 }
 
@@ -69,7 +72,7 @@ fn labelled(words: &[u8]) -> bool {
 fn case(shown: &[u8], line: &[u8]) -> bool {
     let text = after(line, b' ');
     match place(
-        b"fcs read frame packed wire after type setup box receive class",
+        b"fcs read frame packed wire after type setup box receive class record write",
         before(line, b' '),
     ) {
         0 => frames::check(shown, text),
@@ -83,6 +86,8 @@ fn case(shown: &[u8], line: &[u8]) -> bool {
         8 => boxes::boxed(shown, text, false),
         9 => receiving::received(shown, text),
         10 => classes::sorted(shown, text),
+        11 => records::read(shown, text),
+        12 => records::write(shown, text),
         _ => false,
     }
 }

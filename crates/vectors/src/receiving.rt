@@ -11,7 +11,6 @@ use crate::text::octets;
 use crate::text::piece;
 use crate::text::pieces;
 use crate::text::place;
-use crate::text::same;
 use device::Device;
 use device::Held;
 use device::Link;
@@ -19,6 +18,7 @@ use device::Settings;
 use device::Text;
 use device::setup;
 use hdlc::Reader;
+use octets::same_octets;
 use property::slot;
 use serial::Received;
 use serial::receive;
@@ -78,7 +78,7 @@ fn all_changed(changes: &[u8]) -> Given {
 fn changed(given: Given, text: &[u8]) -> Given {
     let field = before(text, b' ');
     let value = after(text, b' ');
-    if same(field, b"link") {
+    if same_octets(field, b"link") {
         return with_link(given, before(value, b' '), after(value, b' '));
     }
     let mut changed = with_field(given, field, value);
@@ -308,7 +308,7 @@ fn same_device(a: Device, b: Device) -> bool {
 fn same_settings(a: Settings, b: Settings) -> bool {
     let a_address = a.address;
     let b_address = b.address;
-    if same(&a_address, &b_address) {
+    if same_octets(&a_address, &b_address) {
         if a.links == b.links {
             if a.vendor == b.vendor {
                 return same_text(a.text, b.text);
@@ -322,7 +322,7 @@ fn same_text(a: Text, b: Text) -> bool {
     let a_octets = a.octets;
     let b_octets = b.octets;
     if a.len == b.len {
-        return same(&a_octets, &b_octets);
+        return same_octets(&a_octets, &b_octets);
     }
     false
 }
@@ -367,7 +367,7 @@ fn same_held(a: Held, b: Held) -> bool {
     let a_octets = a.octets;
     let b_octets = b.octets;
     if a.len == b.len {
-        return same(&a_octets, &b_octets);
+        return same_octets(&a_octets, &b_octets);
     }
     false
 }

@@ -2,6 +2,7 @@
 use lines::HexLine;
 use lines::read_line;
 use octets::find_octet;
+use octets::same_octets;
 
 // The most octets of one call.
 pub const MAX_OCTETS: usize = 2048;
@@ -39,20 +40,6 @@ pub fn after(text: &[u8], mark: u8) -> &[u8] {
         return &text[0..0];
     }
     &text[end + 1..]
-}
-
-pub fn same(text: &[u8], word: &[u8]) -> bool {
-    let mut i = 0;
-    if text.len() != word.len() {
-        return false;
-    }
-    while i < word.len() {
-        if text[i] != word[i] {
-            return false;
-        }
-        i += 1;
-    }
-    true
 }
 
 // How many pieces a text has: one more than marks.
@@ -104,7 +91,7 @@ pub fn place(words: &[u8], word: &[u8]) -> usize {
     let mut k: usize = 0;
     let all = pieces(words, b' ');
     while k < all {
-        if same(piece(words, b' ', k), word) {
+        if same_octets(piece(words, b' ', k), word) {
             return k;
         }
         k += 1;
@@ -176,7 +163,7 @@ pub fn octets(text: &[u8], out: &mut [u8]) -> usize {
 
 // A part: octets in hex, or `1300 times 61`. How many octets it put at the front of `out`; 0 where it is neither, or has no room there.
 fn part(text: &[u8], out: &mut [u8]) -> usize {
-    if same(piece(text, b' ', 1), b"times") {
+    if same_octets(piece(text, b' ', 1), b"times") {
         return repeated(text, out);
     }
     spelled(text, out)
@@ -215,6 +202,16 @@ pub fn is_octets(text: &[u8]) -> bool {
         return true;
     }
     is_call(text)
+}
+
+// Whether a number stands before a colon, and octets behind it.
+pub fn is_numbered(text: &[u8]) -> bool {
+    if pieces(text, b':') == 2 {
+        if is_number(before(text, b':'), usize::MAX) {
+            return is_octets(after(text, b':'));
+        }
+    }
+    false
 }
 
 // Whether a text spells calls, a bar between two, each of at least one octet.

@@ -11,10 +11,10 @@ use crate::text::number;
 use crate::text::octets;
 use crate::text::piece;
 use crate::text::pieces;
-use crate::text::same;
 use datatype::Answer;
 use datatype::Payload;
 use datatype::read_typed;
+use octets::same_octets;
 
 // The longest list that is lent: one that is always long enough.
 const MAX_LIST: usize = Payload::MAX_NUMBERS;
@@ -45,12 +45,12 @@ fn is_typed(text: &[u8], list: &[u8]) -> bool {
 // `first 6 of 8 sevens`, or `last of 192`.
 fn is_list(words: &[u8]) -> bool {
     let rest = after(words, b' ');
-    if same(before(words, b' '), b"first") {
-        if same(after(rest, b' '), b"of 8 sevens") {
+    if same_octets(before(words, b' '), b"first") {
+        if same_octets(after(rest, b' '), b"of 8 sevens") {
             return is_number(before(rest, b' '), 8);
         }
     }
-    if same(front(words, 8), b"last of ") {
+    if same_octets(front(words, 8), b"last of ") {
         return is_number(after(rest, b' '), MAX_LIST);
     }
     false

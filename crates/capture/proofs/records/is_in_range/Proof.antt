@@ -1,5 +1,4 @@
 -- Each return is a test of the definition.
-use mathlib.Core.Bool.{and-false}
 use borrow.Author.Tests.{le-leb, lt-leb}
 use Rattle.octets.specs.Ranges.{isBetween}
 use Rattle.capture.specs.Records.{isInRange}

@@ -1,5 +1,4 @@
 -- Each return is a test of the definition.
-use mathlib.Core.Path.{ap}
 use borrow.Author.Needs.{needs}
 use borrow.Author.Tests.{eq-eqb, ne-eqb}
 use Rattle.octets.specs.Comparing.{isSame}

@@ -1,0 +1,17 @@
+-- The reply stands at the front of its array.
+use mathlib.Core.List.{[], _∷_}
+use mathlib.Core.Path.{sym, ap, _∙_}
+use borrow.Author.Needs.{needs}
+use lib.Seq.{length-take-le}
+use Rattle.replay.proofs.play.Playback.compared.Statement.{statement}
+use Rattle.replay.proofs.play.Playback.compared.Tie as tie
+
+pub compared-spec : {M : Type 1} → statement M
+compared-spec =
+    tie.close
+    (tie.spec
+    (λ c. search needs)
+    (λ c. sym (length-take-le _ _ (c .before .before .before .pre .room)))
+    (λ c κs. search needs)
+    (λ c. ap (λ t. t ∷ []) (sym (c .if1 .taken) ∙ c .before .same-octets .ensures))
+    (λ c. ap (λ t. t ∷ []) (sym (c .if1 .left) ∙ c .before .same-octets .ensures)))
