@@ -1,4 +1,5 @@
--- PROMISE: 02's numbers of all answers, each with its reason: "order 22, 21, 23 when reading".
+-- PROMISE: 02's numbers of all answers, each with its reason; reading in the order 22, 21, 23, writing in the order 23, 24. What is in range
+-- is said with numerals in LawsRecords (`range-told`, `range-holds`).
 use mathlib.Core.Path.{_≡_, ap, _∙_}
 use mathlib.Core.Bool.{Bool, true, false}
 use mathlib.Core.List.{List}
@@ -12,23 +13,23 @@ use lib.Seq.{getD-drop}
 use Rattle.octets.specs.LittleEndian.{leAt}
 use Rattle.octets.proofs.LawsLittleEndian.{le-drop}
 use Rattle.octets.proofs.LawsTests.{by-test}
-use Rattle.capture.specs.Records.{isInRange}
+use Rattle.capture.specs.Records.{entry, recordOf, isInRange}
 use Rattle.capture.specs.Reading.{one, none, hasMark, directionIn, lengthIn, readFront, placed, readAt}
-use Rattle.capture.proofs.LawsReading.{front-end, front-few, front-mark, front-range, front-cut, front-whole}
+use Rattle.capture.specs.Writing.{refused, put, writing}
+use Rattle.capture.proofs.LawsRecords.{record-length}
+use Rattle.capture.proofs.LawsReading.{front-end, front-few, front-mark, front-range, front-cut, front-whole, read-from}
+
+-- ---- reading
 
 module _ (log : List ℕ) (at : ℕ) where
   pub past-end : length log < at → readAt log at ≡ none 22
   unfolding readAt
   past-end h = rw (lt-ltb (length log) at h)
 
-  from-place : at ≤ length log → readAt log at ≡ placed at (readFront (drop at log))
-  unfolding readAt
-  from-place h = rw (le-ltb (length log) at h)
-
   -- the answer of what stands from the place on
   by-front : {n : ℕ} → at ≤ length log → readFront (drop at log) ≡ none n → readAt log at ≡ none n
   unfolding placed
-  by-front h e = from-place h ∙ ap (placed at) e
+  by-front h e = read-from log at h ∙ ap (placed at) e
 
   pub at-end : length log ≡ at → readAt log at ≡ none 0
   at-end h = by-front (omega arith) (front-end (drop at log) (omega (arith, length-drop at log)))
@@ -81,6 +82,22 @@ module _ (log : List ℕ) (at : ℕ) where
             ≡ one (record { direction = getD log (at + 2) 0; start = at + 5; len = leAt log (at + 3) 2; next = at + 5 + leAt log (at + 3) 2 })
         unfolding placed
         whole l =
-            from-place inside
+            read-from log at inside
             ∙ ap (placed at) (front-whole (drop at log) long mark (range r) (omega (arith, length-drop at log, le-drop log at 3 2)))
             ∙ rw (getD-drop at log 2 0, le-drop log at 3 2, add-assoc at 5 (leAt log (at + 3) 2))
+
+-- ---- writing
+
+module _ (space : List ℕ) (at direction : ℕ) (body : List ℕ) where
+  pub write-out-of-range : isInRange direction (length body) ≡ false → writing space at direction body ≡ refused 23 space
+  unfolding writing
+  write-out-of-range r = rw r
+
+  module _ (r : isInRange direction (length body) ≡ true) where
+    pub write-no-room : length space < at + (5 + length body) → writing space at direction body ≡ refused 24 space
+    unfolding writing
+    write-no-room l = rw (r, lt-ltb (length space) (at + length (recordOf (entry direction body))) (omega (arith, record-length (entry direction body))))
+
+    pub write-fits : at + (5 + length body) ≤ length space → writing space at direction body ≡ put space at (recordOf (entry direction body))
+    unfolding writing
+    write-fits l = rw (r, le-ltb (length space) (at + length (recordOf (entry direction body))) (omega (arith, record-length (entry direction body))))

@@ -1,4 +1,4 @@
--- Laws of the record at the front of octets, case by case.
+-- Laws of the record at the front of octets, case by case, and of the one at a place.
 use mathlib.Core.Path.{_≡_, ap}
 use mathlib.Core.Bool.{true, false}
 use mathlib.Core.List.{List}
@@ -6,11 +6,11 @@ use Prim.Native.Nat.{ℕ, _+_, _≤_, _<_}
 use native.Mathlib.Omega.{arith}
 use borrow.Author.Tests.{eq-eqb, ne-eqb, lt-ltb, le-ltb, ltb-false}
 use lib.Dec.{eqb, ltb}
-use lib.ListN.{length}
+use lib.ListN.{length, drop}
 use Rattle.octets.proofs.LawsTests.{chosen, impossible}
 use Rattle.capture.specs.declared.records.Record.{Record}
 use Rattle.capture.specs.Records.{headSize, isInRange}
-use Rattle.capture.specs.Reading.{Report, one, none, hasMark, directionIn, lengthIn, recordIn, readFront}
+use Rattle.capture.specs.Reading.{Report, one, none, hasMark, directionIn, lengthIn, recordIn, readFront, placed, readAt}
 
 module _ (xs : List ℕ) where
   pub front-end : length xs ≡ 0 → readFront xs ≡ none 0
@@ -38,6 +38,12 @@ module _ (xs : List ℕ) where
       pub front-whole : headSize + lengthIn xs ≤ length xs → readFront xs ≡ one (recordIn xs)
       unfolding readFront
       front-whole l = rw (ne-eqb (length xs) 0 (λ z. omega arith), le-ltb (length xs) headSize head, m, r, le-ltb _ _ l)
+
+-- ---- the record at a place
+
+pub read-from : (log : List ℕ) (at : ℕ) → at ≤ length log → readAt log at ≡ placed at (readFront (drop at log))
+unfolding readAt
+read-from log at h = rw (le-ltb (length log) at h)
 
 -- ---- by cases on what stands at the front
 

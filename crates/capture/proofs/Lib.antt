@@ -1,6 +1,5 @@
 pub mod LawsRecords
 pub mod LawsReading
-pub mod LawsWriting
 pub mod LawsLogs
 pub mod Answers
 pub mod OneRecord

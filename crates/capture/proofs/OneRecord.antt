@@ -16,10 +16,10 @@ use Rattle.octets.proofs.LawsTests.{by-test, both-told, impossible}
 use Rattle.octets.proofs.LittleEndianRoundTrip.{octets-back}
 use Rattle.capture.specs.declared.records.Record.{Record}
 use Rattle.capture.specs.Records.{entry, recordOf, Good}
-use Rattle.capture.specs.Reading.{Report, one, hasMark, directionIn, lengthIn, recordIn, readFront, moved, placed, readAt}
+use Rattle.capture.specs.Reading.{Report, one, hasMark, directionIn, lengthIn, recordIn, readFront, shifted, placed, readAt}
 use Rattle.capture.specs.Logs.{entryOf}
 use Rattle.capture.proofs.LawsRecords.{range-good}
-use Rattle.capture.proofs.LawsReading.{FrontCase, nothing, found, front-case, Front}
+use Rattle.capture.proofs.LawsReading.{FrontCase, nothing, found, front-case, Front, read-from}
 
 -- ---- at the front
 
@@ -56,19 +56,18 @@ module _ (xs : List ℕ) {r : Record} (f : Front xs r) where
 
 -- ---- at a place
 
-moved-none : (rs : List Record) → map (moved 0) rs ≡ rs
-moved-none [] = refl
-moved-none (r ∷ rs) =
-    ap₂ _∷_ (λ i. record { direction = r .direction; start = zero-add (r .start) i; len = r .len; next = zero-add (r .next) i }) (moved-none rs)
+shifted-none : (rs : List Record) → map (shifted 0) rs ≡ rs
+shifted-none [] = refl
+shifted-none (r ∷ rs) =
+    ap₂ _∷_ (λ i. record { direction = r .direction; start = zero-add (r .start) i; len = r .len; next = zero-add (r .next) i }) (shifted-none rs)
 
 pub at-front : (xs : List ℕ) → readAt xs 0 ≡ readFront xs
 unfolding readAt placed
 at-front xs =
-    rw (le-ltb (length xs) 0 (omega arith)) (λ i. record { number = readFront xs .number; found = moved-none (readFront xs .found) i })
+    rw (le-ltb (length xs) 0 (omega arith)) (λ i. record { number = readFront xs .number; found = shifted-none (readFront xs .found) i })
 
 pub from-place : (log : List ℕ) (at : ℕ) → at ≤ length log → readAt log at ≡ placed at (readAt (drop at log) 0)
-unfolding readAt
-from-place log at h = rw (le-ltb (length log) at h) (sym (ap (placed at) (at-front (drop at log))))
+from-place log at h = read-from log at h ∙ sym (ap (placed at) (at-front (drop at log)))
 
 -- what a reading of a record tells of the octets from the place on
 pub record Spelled (log : List ℕ) (at : ℕ) (r : Record) : Type 0 where
@@ -82,7 +81,7 @@ pub record Spelled (log : List ℕ) (at : ℕ) (r : Record) : Type 0 where
 module _ (log : List ℕ) (at : ℕ) where
   -- a record at a place is one at the front of what stands from there on
   pub front-at : {r : Record} → readAt log at ≡ one r
-      → (at ≤ length log) × Front (drop at log) (recordIn (drop at log)) × (r ≡ moved at (recordIn (drop at log)))
+      → (at ≤ length log) × Front (drop at log) (recordIn (drop at log)) × (r ≡ shifted at (recordIn (drop at log)))
   unfolding readAt placed
   front-at {r} e =
       by-test (ltb (length log) at)
@@ -90,7 +89,7 @@ module _ (log : List ℕ) (at : ℕ) where
       (λ t. let f = by-case (front-case (drop at log)) (rw t at e) in (ltb-false (length log) at t, f .0, f .1))
     where
       by-case : {q : Report} → FrontCase (drop at log) q → placed at q ≡ one r
-          → Front (drop at log) (recordIn (drop at log)) × (r ≡ moved at (recordIn (drop at log)))
+          → Front (drop at log) (recordIn (drop at log)) × (r ≡ shifted at (recordIn (drop at log)))
       by-case (nothing n) p = impossible (cc (ap (λ q. q .found) p))
       by-case (found h m g l) p = (record { is = refl; head = h; mark = m; range = g; inside = l }, cc (ap (λ q. q .found) p))
 

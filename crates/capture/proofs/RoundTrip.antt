@@ -1,29 +1,28 @@
 -- PROMISE: "Any list of good records written is read back the same."
-use mathlib.Core.Path.{_≡_, refl, ap, ap₂, _∙_}
+use mathlib.Core.Path.{_≡_, refl, sym, ap, ap₂, _∙_}
 use mathlib.Core.List.{List, [], _∷_, _++_, append-assoc, append-nil, foldl}
 use Prim.Native.Nat.{ℕ, _+_, _≤_}
 use native.Mathlib.Omega.{arith}
-use borrow.Author.Tests.{le-ltb}
 use lib.ListN.{length, take, drop, length-append}
-use lib.Seq.{sets, length-sets, drop-at, take-append-seam, drop-append-seam}
+use lib.Seq.{sets, length-sets, drop-drop, drop-at, take-append-seam, drop-append-seam}
 use Rattle.octets.specs.Runs.{each}
 use Rattle.octets.specs.LittleEndian.{leOctets}
 use Rattle.octets.proofs.LawsLittleEndian.{length-le}
 use Rattle.octets.proofs.LawsWriting.{sets-append, sets-front}
 use Rattle.capture.specs.declared.records.Record.{Record}
 use Rattle.capture.specs.Records.{Entry, recordOf, Good}
-use Rattle.capture.specs.Reading.{one, hasMark, lengthIn, readFront, moved, placed, readAt}
+use Rattle.capture.specs.Reading.{one, hasMark, lengthIn, readFront, placed, readAt}
 use Rattle.capture.specs.Writing.{Report, put}
-use Rattle.capture.specs.Logs.{logOf, AllGood, none as no-entry, more, entryOf, after, entriesIn, start, writeNext, numbersFrom, writeAll}
+use Rattle.capture.specs.Logs.{logOf, AllGood, none as no-entry, more, entryOf, withEntry, entriesIn, unwritten, writeNext, numbersFrom, writeAll}
 use Rattle.capture.proofs.LawsRecords.{record-length, good-range, length-back}
-use Rattle.capture.proofs.LawsReading.{front-whole, front-end}
-use Rattle.capture.proofs.LawsWriting.{write-put}
+use Rattle.capture.proofs.LawsReading.{front-whole, front-end, read-from}
+use Rattle.capture.proofs.Answers.{write-fits}
 use Rattle.capture.proofs.LawsLogs.{entries-end, entries-next}
 
 -- ---- one record, whatever stands behind it
 
 -- where its parts stand, counted from its first octet
-abbrev pub parts : Entry → Record
+abbrev parts : Entry → Record
 parts e = record { direction = e .direction; start = 5; len = length (e .body); next = 5 + length (e .body) }
 
 module _ (e : Entry) (rest : List ℕ) (g : Good e) where
@@ -48,16 +47,28 @@ module _ (e : Entry) (rest : List ℕ) (g : Good e) where
   rest-back : drop (5 + length (e .body)) (recordOf e ++ rest) ≡ rest
   rest-back = drop-at (recordOf e) rest _ (record-length e)
 
--- so wherever it stands in a log
-pub record-back : (before after : List ℕ) (e : Entry) → Good e
-    → readAt (before ++ (recordOf e ++ after)) (length before) ≡ one (moved (length before) (parts e))
-unfolding readAt placed
-record-back before after e g =
-    rw (
-      le-ltb (length (before ++ (recordOf e ++ after))) (length before) (omega (arith, length-append before (recordOf e ++ after))),
-      drop-append-seam before (recordOf e ++ after),
-      front-back e after g,
-    )
+-- the same from a place on
+abbrev pub standing : ℕ → Entry → Record
+standing at e = record { direction = e .direction; start = at + 5; len = length (e .body); next = at + (5 + length (e .body)) }
+
+-- so wherever it stands in a log: the record is found there, and holds what was written
+module _ (before after : List ℕ) (e : Entry) (g : Good e) where
+  abbrev place : ℕ
+  place = length before
+
+  pub record-back : readAt (before ++ (recordOf e ++ after)) place ≡ one (standing place e)
+  unfolding placed
+  record-back =
+      read-from (before ++ (recordOf e ++ after)) place (omega (arith, length-append before (recordOf e ++ after)))
+      ∙ ap (λ xs. placed place (readFront xs)) (drop-append-seam before (recordOf e ++ after))
+      ∙ ap (placed place) (front-back e after g)
+
+  pub entry-back : entryOf (before ++ (recordOf e ++ after)) (standing place e) ≡ e
+  unfolding entryOf
+  entry-back =
+      ap (λ xs. record { direction = e .direction; body = take (length (e .body)) xs })
+      (sym (drop-drop 5 place (before ++ (recordOf e ++ after))) ∙ ap (drop 5) (drop-append-seam before (recordOf e ++ after)))
+      ∙ held-back e after g
 
 -- ---- a log
 
@@ -70,7 +81,7 @@ log-then rest (more {e} {es} g gs) =
     let xs : List ℕ = logOf es ++ rest in
     ap entriesIn (append-assoc (recordOf e) (logOf es) rest)
     ∙ entries-next (recordOf e ++ xs) (front-back e xs g)
-    ∙ ap₂ after (held-back e xs g) (ap entriesIn (rest-back e xs g) ∙ log-then rest gs)
+    ∙ ap₂ withEntry (held-back e xs g) (ap entriesIn (rest-back e xs g) ∙ log-then rest gs)
 
 pub log-back : {es : List Entry} → AllGood es → entriesIn (logOf es) ≡ record { entries = es; fault = 0 }
 log-back {es} g =
@@ -92,7 +103,7 @@ wrote-all w (more {e} {es} g gs) room =
     let size = length-append (recordOf e) (logOf es) in
     let v : Report = put (w .space) (w .next) (recordOf e) in
     let first : writeNext w e ≡ v =
-    write-put (w .space) (w .next) (e .direction) (e .body) (good-range g) (omega (arith, size, record-length e)) in
+    write-fits (w .space) (w .next) (e .direction) (e .body) (good-range g) (omega (arith, size, record-length e)) in
     let rest = wrote-all v gs (omega (arith, size, length-sets (w .space) (w .next) (recordOf e))) in
     record {
       numbers = ap (λ u. u .number ∷ numbersFrom u es) first ∙ ap (λ ns. 0 ∷ ns) (rest .numbers);
@@ -102,7 +113,7 @@ wrote-all w (more {e} {es} g gs) room =
 
 -- what is written into a space, and what is read from its part up to the last place returned
 pub record WrittenBack (space : List ℕ) (es : List Entry) : Type 0 where
-  pub numbers : numbersFrom (start space) es ≡ each (λ _. 0 ∷ []) es
+  pub numbers : numbersFrom (unwritten space) es ≡ each (λ _. 0 ∷ []) es
   pub next : writeAll space es .next ≡ length (logOf es)
   pub held : writeAll space es .space ≡ logOf es ++ drop (length (logOf es)) space
   pub read : entriesIn (take (writeAll space es .next) (writeAll space es .space)) ≡ record { entries = es; fault = 0 }
@@ -110,9 +121,9 @@ pub record WrittenBack (space : List ℕ) (es : List Entry) : Type 0 where
 pub written-back : (space : List ℕ) {es : List Entry} → AllGood es → length (logOf es) ≤ length space → WrittenBack space es
 unfolding writeAll
 written-back space {es} g room =
-    let w = wrote-all (start space) g (omega arith) in
-    let next : foldl writeNext (start space) es .next ≡ length (logOf es) = omega (arith, w .next) in
-    let held : foldl writeNext (start space) es .space ≡ logOf es ++ drop (length (logOf es)) space = w .held ∙ sets-front (logOf es) space room in
+    let w = wrote-all (unwritten space) g (omega arith) in
+    let next : foldl writeNext (unwritten space) es .next ≡ length (logOf es) = omega (arith, w .next) in
+    let held : foldl writeNext (unwritten space) es .space ≡ logOf es ++ drop (length (logOf es)) space = w .held ∙ sets-front (logOf es) space room in
     record {
       numbers = w .numbers;
       next = next;

@@ -12,15 +12,15 @@ use Rattle.octets.proofs.LawsTests.{impossible}
 use Rattle.capture.specs.declared.records.Record.{Record}
 use Rattle.capture.specs.Records.{recordOf}
 use Rattle.capture.specs.Reading.{Report, one, none, lengthIn, readFront, placed, readAt}
-use Rattle.capture.specs.Logs.{logOf, AllGood, none as no-entry, more, entryOf, Entries, after, ended, entriesIn}
-use Rattle.capture.proofs.LawsReading.{front-whole, FrontCase, nothing, found, front-case, Front}
+use Rattle.capture.specs.Logs.{logOf, AllGood, none as no-entry, more, entryOf, Entries, withEntry, ended, entriesIn}
+use Rattle.capture.proofs.LawsReading.{front-whole, FrontCase, nothing, found, front-case, Front, read-from}
 use Rattle.capture.proofs.LawsLogs.{entries-end, entries-next}
-use Rattle.capture.proofs.OneRecord.{front-octets, front-good, at-front, from-place, front-at}
+use Rattle.capture.proofs.OneRecord.{front-octets, front-good, at-front, front-at}
 
 -- ---- call by call
 
 module _ (log : List ℕ) (at : ℕ) where
-  pub call-next : {r : Record} → readAt log at ≡ one r → entriesIn (drop at log) ≡ after (entryOf log r) (entriesIn (drop (r .next) log))
+  pub call-next : {r : Record} → readAt log at ≡ one r → entriesIn (drop at log) ≡ withEntry (entryOf log r) (entriesIn (drop (r .next) log))
   unfolding entryOf
   call-next e =
       let f = front-at log at e in
@@ -32,7 +32,7 @@ module _ (log : List ℕ) (at : ℕ) where
 
   pub call-end : {n : ℕ} → at ≤ length log → readAt log at ≡ none n → entriesIn (drop at log) ≡ ended n
   unfolding placed
-  call-end {n} h e = entries-end (drop at log) (by-case (front-case (drop at log)) (sym (from-place log at h ∙ ap (placed at) (at-front (drop at log))) ∙ e))
+  call-end {n} h e = entries-end (drop at log) (by-case (front-case (drop at log)) (sym (read-from log at h) ∙ e))
     where
       by-case : {q : Report} → FrontCase (drop at log) q → placed at q ≡ none n → q ≡ none n
       by-case (nothing m) p = cc (ap (λ q. q .number) p)

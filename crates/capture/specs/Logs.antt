@@ -30,26 +30,27 @@ pub record Entries : Type 0 where
 abbrev pub ended : ℕ → Entries
 ended n = record { entries = []; fault = n }
 
-abbrev pub after : Entry → Entries → Entries
-after e r = record { entries = e ∷ r .entries; fault = r .fault }
+abbrev pub withEntry : Entry → Entries → Entries
+withEntry e r = record { entries = e ∷ r .entries; fault = r .fault }
 
--- the record that was found, if there is one, and what stands from its next place on
-unfoldable pub joined : List ℕ → List Record → ℕ → (ℕ → Entries) → Entries
-joined log [] number rest = ended number
-joined log (r ∷ rs) number rest = after (entryOf log r) (rest (r .next))
+-- by what is answered at the front: nothing more where there is no record, else what the record holds, and the rest from its next place on
+unfoldable pub entriesBy : List ℕ → List Record → ℕ → (ℕ → Entries) → Entries
+entriesBy log [] number rest = ended number
+entriesBy log (r ∷ rs) number rest = withEntry (entryOf log r) (rest (r .next))
 
 -- a record has seven octets at least, so that as many records as octets are enough
 unfoldable pub entriesWithin : ℕ → List ℕ → Entries
 entriesWithin zero log = ended 0
-entriesWithin (suc n) log = joined log (readFront log .found) (readFront log .number) (λ next. entriesWithin n (drop next log))
+entriesWithin (suc n) log = entriesBy log (readFront log .found) (readFront log .number) (λ next. entriesWithin n (drop next log))
 
 unfoldable pub entriesIn : List ℕ → Entries
 entriesIn log = entriesWithin (length log) log
 
--- ---- a log written record by record, each from the place that the last call returned
+-- ---- a log written record by record from place 0 on, each from the place that the last call returned
 
-abbrev pub start : List ℕ → writing.Report
-start space = record { number = 0; next = 0; space = space }
+-- before the first call
+abbrev pub unwritten : List ℕ → writing.Report
+unwritten space = record { number = 0; next = 0; space = space }
 
 unfoldable pub writeNext : writing.Report → Entry → writing.Report
 writeNext w e = writing (w .space) (w .next) (e .direction) (e .body)
@@ -58,6 +59,6 @@ writeNext w e = writing (w .space) (w .next) (e .direction) (e .body)
 abbrev pub numbersFrom : writing.Report → List Entry → List ℕ
 numbersFrom w es = emitted (λ v e. writeNext v e .number ∷ []) writeNext w es
 
--- and what the last one leaves, from place 0 on
+-- what the last one tells and leaves
 unfoldable pub writeAll : List ℕ → List Entry → writing.Report
-writeAll space es = foldl writeNext (start space) es
+writeAll space es = foldl writeNext (unwritten space) es

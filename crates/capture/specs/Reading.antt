@@ -45,7 +45,7 @@ abbrev pub recordIn : List ℕ → Record
 recordIn xs = record { direction = directionIn xs; start = headSize; len = lengthIn xs; next = headSize + lengthIn xs }
 
 -- "order 22, 21, 23 when reading"; "Cut off means fewer than five octets left or, where mark, direction and length are good, fewer than the
--- length demands. At the end exactly, the answer is "no more""
+-- length demands"; where none is left, there are no more: "At the end exactly"
 unfoldable pub readFront : List ℕ → Report
 readFront xs =
     cond (eqb (length xs) 0) (none 0)
@@ -58,11 +58,11 @@ readFront xs =
 
 -- ---- at a place, from which places are counted on
 
-abbrev pub moved : ℕ → Record → Record
-moved n r = record { direction = r .direction; start = n + r .start; len = r .len; next = n + r .next }
+abbrev pub shifted : ℕ → Record → Record
+shifted n r = record { direction = r .direction; start = n + r .start; len = r .len; next = n + r .next }
 
 unfoldable pub placed : ℕ → Report → Report
-placed n r = record { number = r .number; found = map (moved n) (r .found) }
+placed n r = record { number = r .number; found = map (shifted n) (r .found) }
 
 -- "a place past the end is 22 when reading"
 unfoldable pub readAt : List ℕ → ℕ → Report

@@ -18,12 +18,12 @@ use Rattle.device.specs.declared.state.Device.{Device}
 use Rattle.engine.specs.Engine.{engine}
 use Rattle.engine.specs.Merged.{deviceAfter}
 use Rattle.engine.proofs.RepliesInOrder.{device-append}
-use Rattle.replay.specs.Play.{State, silent, sent, next, lineFor, afterAll, linesFrom, replayed, requestIn, requestsIn, Answers}
+use Rattle.replay.specs.Play.{State, silent, delivered, next, lineFor, afterAll, linesFrom, replayed, requestIn, requestsIn, IsReply}
 
 -- ---- the box behind some records
 
 box-next : (s : State) (e : Entry) → next s e .device ≡ deviceAfter (s .device) (requestIn e)
-unfolding next sent requestIn deviceAfter
+unfolding next delivered requestIn deviceAfter
 box-next s e =
     by-test (eqb (e .direction) 0)
     (λ t. by-test (eqb (headerOf (e .body) / 64) 2) (λ h. rw (t, h)) (λ h. rw (t, h)))
@@ -47,7 +47,7 @@ module _ (d : Device) (before : List Entry) (q : Entry) where
   -- of a body that reached the box
   expected : q .direction ≡ 0 → headerOf (q .body) / 64 ≡ 2
       → afterAll (silent d) (before ++ (q ∷ [])) .reply ≡ engine (deviceAfter d (requestsIn before)) (q .body) .reply
-  unfolding next sent
+  unfolding next delivered
   expected to top =
       ap (λ s. s .reply) behind
       ∙ rw (eq-eqb (q .direction) 0 to, eq-eqb (headerOf (q .body) / 64) 2 top, box-after (silent d) before)
@@ -58,7 +58,7 @@ module _ (d : Device) (before : List Entry) (q : Entry) where
   from-there t = ap (λ s. s .reply) behind ∙ rw t
 
   dropped : eqb (q .direction) 0 ≡ true → eqb (headerOf (q .body) / 64) 2 ≡ false → afterAll (silent d) (before ++ (q ∷ [])) .reply ≡ []
-  unfolding next sent
+  unfolding next delivered
   dropped t h = ap (λ s. s .reply) behind ∙ rw (t, h)
 
 -- ---- the last record
@@ -76,7 +76,7 @@ last-of (e ∷ es) = further (last-of es)
     further (one-more before q) = one-more (e ∷ before) q
 
 -- a reply behind some records, which has octets, is one to the last of them
-answered : (d : Device) {es : List Entry} (a : Entry) → Last es → 2 ≤ length (a .body) → afterAll (silent d) es .reply ≡ a .body → Answers d es a
+answered : (d : Device) {es : List Entry} (a : Entry) → Last es → 2 ≤ length (a .body) → afterAll (silent d) es .reply ≡ a .body → IsReply d es a
 unfolding afterAll
 answered d a none least e = absurd (omega (arith, ap length e))
 answered d a (one-more before q) least e =
@@ -107,12 +107,12 @@ module _ (d : Device) (es : List Entry) (a : Entry) where
     unfolding lineFor
     compared e = line-of ∙ rw (ne-eqb (a .direction) 0 (λ z. omega arith), e)
 
-    pub yes-when : Answers d es a → replayed d (es ++ (a ∷ [])) ≡ replayed d es ++ (true ∷ [])
+    pub yes-when : IsReply d es a → replayed d (es ++ (a ∷ [])) ≡ replayed d es ++ (true ∷ [])
     yes-when w =
         compared
         (rw (w .just-before, expected d (w .before) (w .request) (w .to-box) (w .top), ← w .reply) (same-self (a .body)))
 
-    pub no-else : 2 ≤ length (a .body) → (Answers d es a → ⊥) → replayed d (es ++ (a ∷ [])) ≡ replayed d es ++ (false ∷ [])
+    pub no-else : 2 ≤ length (a .body) → (IsReply d es a → ⊥) → replayed d (es ++ (a ∷ [])) ≡ replayed d es ++ (false ∷ [])
     no-else least other =
         by-test (isSame (afterAll (silent d) es .reply) (a .body))
         (λ t. absurd (other (answered d a (last-of es) least (same-equal _ _ t))))

@@ -17,15 +17,15 @@ use Rattle.engine.specs.Engine.{engine}
 use Rattle.engine.proofs.ReplyBounds.{reply-bounds}
 use Rattle.engine.proofs.RulesKept.{body-keeps}
 use Rattle.replay.specs.declared.play.Playback.{Playback}
-use Rattle.replay.specs.Play.{stateOf, Keeps, sent}
+use Rattle.replay.specs.Play.{stateOf, Keeps, delivered}
 
 module _ (d : Device) (b : List ℕ) {space : List ℕ} {p : Playback} (kept : rules d ≡ true) (room : maxReply ≤ length space)
     (device : p .device ≡ engine d b .device) (w : Wrote space (p .reply) 0 (p .len) (engine d b .reply)) where
   fits : length (engine d b .reply) ≤ length space
   fits = omega (arith, reply-bounds d b kept)
 
-  pub sent-keeps : Keeps p
-  sent-keeps =
+  pub delivered-keeps : Keeps p
+  delivered-keeps =
       record {
         device = rw device (body-keeps d b kept);
         room = omega (arith, fits, front-count fits w, ap length (w .held), length-sets space 0 (engine d b .reply));
@@ -34,6 +34,6 @@ module _ (d : Device) (b : List ℕ) {space : List ℕ} {p : Playback} (kept : r
   reply : take (p .len) (p .reply) ≡ engine d b .reply
   reply = rw (front-count fits w, front-held fits w) (take-append-seam (engine d b .reply) _)
 
-  pub sent-state : headerOf b / 64 ≡ 2 → stateOf p ≡ sent d b
-  unfolding sent
-  sent-state top = rw (eq-eqb (headerOf b / 64) 2 top) (λ i. record { device = device i; reply = reply i })
+  pub delivered-state : headerOf b / 64 ≡ 2 → stateOf p ≡ delivered d b
+  unfolding delivered
+  delivered-state top = rw (eq-eqb (headerOf b / 64) 2 top) (λ i. record { device = device i; reply = reply i })

@@ -1,6 +1,6 @@
 pub mod LawsPlay
-pub mod LawsPieces
-pub mod LawsLogPieces
+pub mod LawsChunks
+pub mod LawsLogChunks
 pub mod LawsRun
 pub mod JustBefore
 pub mod Replays

@@ -1,3 +1,3 @@
 pub mod Play
-pub mod Pieces
+pub mod Chunks
 pub mod Run

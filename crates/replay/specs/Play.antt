@@ -38,21 +38,21 @@ pub record Keeps (p : Playback) : Type 0 where
 -- ---- a record
 
 -- a body to the box; where its top bits are not 10 it never reaches the engine (01: "dropped: top two header bits not 10")
-unfoldable pub sent : Device → List ℕ → State
-sent d b = cond (eqb (headerOf b / 64) 2) (record { device = engine d b .device; reply = engine d b .reply }) (silent d)
+unfoldable pub delivered : Device → List ℕ → State
+delivered d b = cond (eqb (headerOf b / 64) 2) (record { device = engine d b .device; reply = engine d b .reply }) (silent d)
 
 unfoldable pub next : State → Entry → State
-next s e = cond (eqb (e .direction) toBox) (sent (s .device) (e .body)) (silent (s .device))
+next s e = cond (eqb (e .direction) toBox) (delivered (s .device) (e .body)) (silent (s .device))
 
 -- the line for a record from the box: yes or no
 unfoldable pub lineFor : State → Entry → List Bool
 lineFor s e = cond (eqb (e .direction) toBox) [] (isSame (s .reply) (e .body) ∷ [])
 
--- in the code
-abbrev pub shown : Line → List Bool
-shown Nothing = []
-shown Yes = true ∷ []
-shown No = false ∷ []
+-- the same of the code's line
+abbrev pub yesOrNo : Line → List Bool
+yesOrNo Nothing = []
+yesOrNo Yes = true ∷ []
+yesOrNo No = false ∷ []
 
 -- ---- records one after the other
 
@@ -75,8 +75,8 @@ requestIn e = cond (eqb (e .direction) toBox) (cond (eqb (headerOf (e .body) / 6
 unfoldable pub requestsIn : List Entry → List (List ℕ)
 requestsIn es = each requestIn es
 
--- behind these records, "the record just before is to-box and this is its reply"
-pub record Answers (d : Device) (es : List Entry) (a : Entry) : Type 0 where
+-- behind these records, "the record just before is to-box and this is its reply": the engine's, on the box that the bodies before it leave
+pub record IsReply (d : Device) (es : List Entry) (a : Entry) : Type 0 where
   pub before : List Entry
   pub request : Entry
   pub just-before : es ≡ before ++ (request ∷ [])

@@ -1,6 +1,6 @@
 // The program that replays a capture log (02, T-05): the log on standard input, and for each record from the box a line on standard output,
 // whether the box of 01 replies so.
-mod pieces;
+mod chunks;
 mod play;
 mod run;
 

@@ -10,7 +10,7 @@ ghost use Rattle.octets.specs.Body.{Body};
 ghost use Rattle.octets.specs.Comparing.{isSame};
 ghost use Rattle.device.specs.Rules.{rules};
 ghost use Rattle.capture.specs.Records.{entry};
-ghost use Rattle.replay.specs.Play.{stateOf, Keeps, shown, silent, sent, next, lineFor};
+ghost use Rattle.replay.specs.Play.{stateOf, Keeps, yesOrNo, silent, delivered, next, lineFor};
 
 // The box, and its reply to the record just before.
 pub struct Playback {
@@ -49,11 +49,11 @@ impl Playback {
     }
 
     // A body that came to the box. One that is no Spinel body has no reply and changes nothing.
-    fn sent(device: Device, body: &[u8]) -> Playback
+    fn delivered(device: Device, body: &[u8]) -> Playback
         requires rules { ⌜ rules device ≡ true ⌝ }
         requires body { ⌜ Body (now body) ⌝ }
         ensures keeps { λ p. ⌜ Keeps p ⌝ }
-        ensures state { λ p. ⌜ stateOf p ≡ sent device (now (body .entry)) ⌝ }
+        ensures state { λ p. ⌜ stateOf p ≡ delivered device (now (body .entry)) ⌝ }
     {
         if body[0] / 64 != 2 {
             return Playback::silent(device);
@@ -71,7 +71,7 @@ impl Playback {
     // Whether a body from the box is the reply.
     fn compared(self, body: &[u8]) -> Line
         requires { ⌜ Keeps self ⌝ }
-        ensures { λ r. ⌜ shown r ≡ isSame (stateOf self .reply) (now (body .entry)) ∷ [] ⌝ }
+        ensures { λ r. ⌜ yesOrNo r ≡ isSame (stateOf self .reply) (now (body .entry)) ∷ [] ⌝ }
     {
         let reply = self.reply;
         let len = self.len;
@@ -87,12 +87,12 @@ impl Playback {
         requires body { ⌜ Body (now body) ⌝ }
         ensures keeps { λ p. ⌜ Keeps (p .playback) ⌝ }
         ensures state { λ p. ⌜ stateOf (p .playback) ≡ next (stateOf self) (entry direction (now (body .entry))) ⌝ }
-        ensures line { λ p. ⌜ shown (p .line) ≡ lineFor (stateOf self) (entry direction (now (body .entry))) ⌝ }
+        ensures line { λ p. ⌜ yesOrNo (p .line) ≡ lineFor (stateOf self) (entry direction (now (body .entry))) ⌝ }
     {
         let device = self.device;
         if direction == Record::TO_BOX {
             return Played {
-                playback: Playback::sent(device, body),
+                playback: Playback::delivered(device, body),
                 line: Line::Nothing,
             };
         }

@@ -1,5 +1,5 @@
 // Records one after the other, and their lines.
-use crate::pieces::read_piece;
+use crate::chunks::read_chunk;
 use crate::play::Line;
 use crate::play::Playback;
 use capture::Found;
@@ -11,18 +11,50 @@ ghost use mathlib.Core.Path.{_≡_};
 ghost use lib.ListN.{length, take};
 ghost use Rattle.device.specs.Rules.{rules};
 ghost use Rattle.replay.specs.Play.{stateOf, Keeps, silent};
-ghost use Rattle.replay.specs.Pieces.{maxRecord, IsPiece};
+ghost use Rattle.replay.specs.Chunks.{maxRecord, IsChunk};
 ghost use Rattle.replay.specs.Run.{Turned, Ended};
 
-// The box after a piece of the log.
+// The box after a chunk of the log, and the line for it.
 pub struct Turn {
     pub playback: Playback,
-    // How many octets the piece has.
+    pub line: Line,
+    // How many octets the chunk has.
     pub read: usize,
-    // The piece is no record: the log ends there, or is at fault. This ends the program.
+    // The chunk is no record: the log ends there, or is at fault. This ends the program.
     pub ended: bool,
-    // The record's line could not be written. This ends the program too.
+}
+
+pub struct Progress {
+    pub turn: Turn,
+    // The line could not be written. This ends the program too.
     pub stopped: bool,
+}
+
+// The record at the front of a chunk, if there is one.
+fn play_chunk(playback: Playback, chunk: &[u8]) -> Turn
+    requires { ⌜ Keeps playback ⌝ }
+    ensures { λ t. ⌜ Turned (stateOf playback) t (now (chunk .entry)) ⌝ }
+{
+    let read = chunk.len();
+    let Found::At(record) = read_record(chunk, 0) else {
+        return Turn {
+            playback,
+            line: Line::Nothing,
+            read,
+            ended: true,
+        };
+    };
+    let start = record.start;
+    let end = record.next;
+    let played = playback.play(record.direction, &chunk[start..end]);
+    let next = played.playback;
+    let line = played.line;
+    Turn {
+        playback: next,
+        line,
+        read,
+        ended: false,
+    }
 }
 
 fn print(line: Line) -> bool {
@@ -33,66 +65,49 @@ fn print(line: Line) -> bool {
     }
 }
 
-// The record at the front of a piece, if there is one, and its line.
-fn play_piece(playback: Playback, piece: &[u8]) -> Turn
-    requires { ⌜ Keeps playback ⌝ }
-    ensures { λ t. ⌜ Turned (stateOf playback) t (now (piece .entry)) ⌝ }
+// One chunk of the log. Its line is written before more is read.
+fn play_next(playback: Playback, space: &mut [u8]) -> Progress
+    requires keeps { ⌜ Keeps playback ⌝ }
+    requires room { ⌜ length (now space) ≡ maxRecord ⌝ }
+    ensures chunk { λ p. ⌜ IsChunk (take (p .turn .read) (now (space .exit))) ⌝ }
+    ensures turned { λ p. ⌜ Turned (stateOf playback) (p .turn) (take (p .turn .read) (now (space .exit))) ⌝ }
 {
-    let read = piece.len();
-    let Found::At(record) = read_record(piece, 0) else {
-        return Turn {
-            playback,
-            read,
-            ended: true,
-            stopped: false,
-        };
-    };
-    let start = record.start;
-    let end = record.next;
-    let played = playback.play(record.direction, &piece[start..end]);
-    let line = played.line;
-    let next = played.playback;
-    Turn {
-        playback: next,
-        read,
-        ended: false,
+    let read = read_chunk(space);
+    let turn = play_chunk(playback, &space[..read]);
+    let line = turn.line;
+    Progress {
+        turn,
         stopped: !print(line),
     }
 }
 
-// One piece of the log. Its line is written before more is read.
-fn play_next(playback: Playback, space: &mut [u8]) -> Turn
-    requires keeps { ⌜ Keeps playback ⌝ }
-    requires room { ⌜ length (now space) ≡ maxRecord ⌝ }
-    ensures piece { λ t. ⌜ IsPiece (take (t .read) (now (space .exit))) ⌝ }
-    ensures turned { λ t. ⌜ Turned (stateOf playback) t (take (t .read) (now (space .exit))) ⌝ }
-{
-    let read = read_piece(space);
-    play_piece(playback, &space[..read])
-}
-
-// A proved loop has to end, and nothing says that the input does. So the pieces are counted down from 2^64 - 1.
-pub fn run(device: Device, space: &mut [u8]) -> Turn
+// A proved loop has to end, and nothing says that the input does. So the chunks are counted down from 2^64 - 1.
+pub fn run(device: Device, space: &mut [u8]) -> Progress
     requires rules { ⌜ rules device ≡ true ⌝ }
     requires room { ⌜ length (now space) ≡ maxRecord ⌝ }
-    ensures { λ t. ⌜ Ended (silent device) t ⌝ }
+    ensures { λ p. ⌜ Ended (silent device) p ⌝ }
 {
-    let mut turn = Turn {
-        playback: Playback::silent(device),
-        read: 0,
-        ended: false,
+    let mut progress = Progress {
+        turn: Turn {
+            playback: Playback::silent(device),
+            line: Line::Nothing,
+            read: 0,
+            ended: false,
+        },
         stopped: false,
     };
     let mut left = u64::MAX;
     while 0 < left {
-        turn = play_next(turn.playback, space);
+        let turn = progress.turn;
+        progress = play_next(turn.playback, space);
         left -= 1;
-        if turn.ended {
-            return turn;
+        let next = progress.turn;
+        if next.ended {
+            return progress;
         }
-        if turn.stopped {
-            return turn;
+        if progress.stopped {
+            return progress;
         }
     }
-    turn
+    progress
 }

@@ -8,7 +8,7 @@ use lib.ListN.{length}
 use Rattle.capture.specs.Records.{entry, headSize, isInRange}
 use Rattle.capture.specs.Writing.{put}
 use Rattle.capture.proofs.LawsRecords.{record-length}
-use Rattle.capture.proofs.LawsWriting.{write-range, write-no-room, write-put}
+use Rattle.capture.proofs.Answers.{write-out-of-range, write-no-room, write-fits}
 use Rattle.capture.proofs.writing.write_record.Statement.{statement}
 use Rattle.capture.proofs.writing.write_record.Tie as tie
 
@@ -37,5 +37,5 @@ write-record-spec =
     (λ c. search needs)
     (λ c. let w = c .before .before .put-record .ensures in
     let k = c .before .before .before .before in
-    rw (write-put _ _ _ _ (range (k .before .before)) (room k)) (λ i. record { number = 0; next = w .end i; space = w .held i }))
-    (λ c. sym (write-range _ _ _ _ (sym (c .before .is-in-range .ensures) ∙ c .if1 .left))))
+    rw (write-fits _ _ _ _ (range (k .before .before)) (room k)) (λ i. record { number = 0; next = w .end i; space = w .held i }))
+    (λ c. sym (write-out-of-range _ _ _ _ (sym (c .before .is-in-range .ensures) ∙ c .if1 .left))))

@@ -1,4 +1,4 @@
--- Laws of pieces: the record at the front of one, and what is to come behind a head.
+-- Laws of chunks: the record at the front of one, and what is to come behind a head.
 use types.Run.{OneOf, miss}
 use denote.Enum.Declared.{tagOf}
 use mathlib.Core.Bool.{true, false, cond, _&&_}
@@ -22,9 +22,9 @@ use Rattle.capture.proofs.reading.Found.{the-type as found-type}
 use Rattle.capture.proofs.LawsRecords.{range-told}
 use Rattle.capture.proofs.LawsReading.{front-mark, front-range}
 use Rattle.capture.proofs.OneRecord.{at-front}
-use Rattle.replay.specs.Pieces.{bodyLeft, IsPiece, entryIn}
+use Rattle.replay.specs.Chunks.{bodyLeft, IsChunk, entryIn}
 
--- ---- a piece that was read
+-- ---- a chunk that was read
 
 module _ (xs : List ℕ) where
   pub there : {r : Record} → readAt xs 0 ≡ one r → entryIn xs ≡ entryOf xs r ∷ []
@@ -87,9 +87,9 @@ module _ (xs : List ℕ) where
 
 -- ---- what two reads leave: h octets, and behind them k
 
-pub read-is-piece : (xs ys : List ℕ) (h k : ℕ) → h ≤ headSize → h ≤ length xs → k ≤ bodyLeft (take h xs) → IsPiece (take (h + k) (take h xs ++ ys))
-unfolding IsPiece
-read-is-piece xs ys h k few room more =
+pub read-is-chunk : (xs ys : List ℕ) (h k : ℕ) → h ≤ headSize → h ≤ length xs → k ≤ bodyLeft (take h xs) → IsChunk (take (h + k) (take h xs ++ ys))
+unfolding IsChunk
+read-is-chunk xs ys h k few room more =
     by-test (eqb h headSize)
     (λ t. let five : h ≡ headSize = eqb-true h headSize t in
     let front : take headSize (take (h + k) (take h xs ++ ys)) ≡ take h xs =

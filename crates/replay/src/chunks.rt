@@ -8,7 +8,7 @@ use octets::read_le;
 ghost use mathlib.Core.Path.{_≡_};
 ghost use Prim.Native.Nat.{_≤_};
 ghost use lib.ListN.{length, take};
-ghost use Rattle.replay.specs.Pieces.{bodyLeft, maxRecord, IsPiece};
+ghost use Rattle.replay.specs.Chunks.{bodyLeft, maxRecord, IsChunk};
 
 // How many octets of a body are to come, where these are five and a good head; else none.
 fn body_left(octets: &[u8]) -> usize
@@ -25,10 +25,10 @@ fn body_left(octets: &[u8]) -> usize
 
 // Reads the next record to the front of the space, and no octet of the one behind it. Returns how many octets came: fewer where the input ends,
 // and only five where they are no good head.
-pub fn read_piece(space: &mut [u8]) -> usize
+pub fn read_chunk(space: &mut [u8]) -> usize
     requires { ⌜ length (now space) ≡ maxRecord ⌝ }
     ensures room { λ n. ⌜ n ≤ length (now (space .exit)) ⌝ }
-    ensures piece { λ n. ⌜ IsPiece (take n (now (space .exit))) ⌝ }
+    ensures chunk { λ n. ⌜ IsChunk (take n (now (space .exit))) ⌝ }
 {
     let head = io::read_full(STDIN_FILENO, &mut space[..Record::HEAD_SIZE]);
     let end = head + body_left(&space[..head]);

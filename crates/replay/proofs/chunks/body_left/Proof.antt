@@ -2,9 +2,9 @@
 use mathlib.Core.Path.{sym, ap, _∙_}
 use borrow.Author.Needs.{needs}
 use Rattle.capture.specs.Reading.{reported}
-use Rattle.replay.proofs.LawsPieces.{left-no-head, left-body, left-none}
-use Rattle.replay.proofs.pieces.body_left.Statement.{statement}
-use Rattle.replay.proofs.pieces.body_left.Tie as tie
+use Rattle.replay.proofs.LawsChunks.{left-no-head, left-body, left-none}
+use Rattle.replay.proofs.chunks.body_left.Statement.{statement}
+use Rattle.replay.proofs.chunks.body_left.Tie as tie
 
 pub body-left-spec : {M : Type 1} → statement M
 body-left-spec =

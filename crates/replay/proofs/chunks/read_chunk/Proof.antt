@@ -7,10 +7,10 @@ use borrow.Author.Needs.{needs}
 use borrow.Rule.Slice.PartMut.{same-len-mid}
 use lib.ListN.{length, take, drop, length-append, length-drop}
 use lib.Seq.{length-take-le}
-use Rattle.replay.specs.Pieces.{bodyLeft}
-use Rattle.replay.proofs.LawsPieces.{left-most, read-is-piece}
-use Rattle.replay.proofs.pieces.read_piece.Statement.{statement}
-use Rattle.replay.proofs.pieces.read_piece.Tie as tie
+use Rattle.replay.specs.Chunks.{bodyLeft}
+use Rattle.replay.proofs.LawsChunks.{left-most, read-is-chunk}
+use Rattle.replay.proofs.chunks.read_chunk.Statement.{statement}
+use Rattle.replay.proofs.chunks.read_chunk.Tie as tie
 
 module _ (c : tie.After-read-full) where
   abbrev space : List ℕ
@@ -56,8 +56,8 @@ module _ (c : tie.After-read-full2) where
   more : c .read-full2 .result ≤ bodyLeft (take h (held (first told)))
   more = omega (arith, c .read-full2 .ensures .0, lent, told .body-left .ensures)
 
-pub read-piece-spec : {M : Type 1} → statement M
-read-piece-spec =
+pub read-chunk-spec : {M : Type 1} → statement M
+read-chunk-spec =
     tie.close
     (tie.spec
     (λ c. search needs)
@@ -76,5 +76,5 @@ read-piece-spec =
     (λ c. let r = c .before .before in
     let f = first (told r) in (
       omega (arith, same-len-mid (h r) (h r + told r .body-left .result - h r) (held f) (r .read-full2 .last .1 .0) (r .read-full2 .kept .1 .0), size f, most (told r), lent r, r .read-full2 .ensures .0),
-      read-is-piece (held f) _ (h r) (r .read-full2 .result) (few f) (omega (arith, few f, size f)) (more r),
+      read-is-chunk (held f) _ (h r) (r .read-full2 .result) (few f) (omega (arith, few f, size f)) (more r),
     )))
