@@ -14,7 +14,7 @@ use Rattle.octets.specs.LittleEndian.{leAt}
 use Rattle.octets.proofs.LawsLittleEndian.{le-drop}
 use Rattle.octets.proofs.LawsTests.{by-test}
 use Rattle.capture.specs.Records.{entry, recordOf, isInRange}
-use Rattle.capture.specs.Reading.{one, none, hasMark, directionIn, lengthIn, readFront, placed, readAt}
+use Rattle.capture.specs.Reading.{one, noRecord, hasMark, directionIn, lengthIn, readFront, placed, readAt}
 use Rattle.capture.specs.Writing.{refused, put, writing}
 use Rattle.capture.proofs.LawsRecords.{record-length}
 use Rattle.capture.proofs.LawsReading.{front-end, front-few, front-mark, front-range, front-cut, front-whole, read-from}
@@ -22,19 +22,19 @@ use Rattle.capture.proofs.LawsReading.{front-end, front-few, front-mark
 -- ---- reading
 
 module _ (log : List ℕ) (at : ℕ) where
-  pub past-end : length log < at → readAt log at ≡ none 22
+  pub past-end : length log < at → readAt log at ≡ noRecord 22
   unfolding readAt
   past-end h = rw (lt-ltb (length log) at h)
 
   -- the answer of what stands from the place on
-  by-front : {n : ℕ} → at ≤ length log → readFront (drop at log) ≡ none n → readAt log at ≡ none n
+  by-front : {n : ℕ} → at ≤ length log → readFront (drop at log) ≡ noRecord n → readAt log at ≡ noRecord n
   unfolding placed
   by-front h e = read-from log at h ∙ ap (placed at) e
 
-  pub at-end : length log ≡ at → readAt log at ≡ none 0
+  pub at-end : length log ≡ at → readAt log at ≡ noRecord 0
   at-end h = by-front (omega arith) (front-end (drop at log) (omega (arith, length-drop at log)))
 
-  pub under-five : at < length log → length log < at + 5 → readAt log at ≡ none 22
+  pub under-five : at < length log → length log < at + 5 → readAt log at ≡ noRecord 22
   under-five h k = by-front (omega arith) (front-few (drop at log) (omega (arith, length-drop at log)) (omega (arith, length-drop at log)))
 
   module _ (head : at + 5 ≤ length log) where
@@ -50,7 +50,7 @@ module _ (log : List ℕ) (at : ℕ) where
     second : getD (drop at log) 1 0 ≡ getD log (at + 1) 0
     second = getD-drop at log 1 0
 
-    pub bad-mark : (getD log at 0 ≡ 0x53 → getD log (at + 1) 0 ≡ 0x50 → ⊥) → readAt log at ≡ none 21
+    pub bad-mark : (getD log at 0 ≡ 0x53 → getD log (at + 1) 0 ≡ 0x50 → ⊥) → readAt log at ≡ noRecord 21
     unfolding hasMark
     bad-mark other =
         by-front inside
@@ -69,11 +69,11 @@ module _ (log : List ℕ) (at : ℕ) where
       range : {b : Bool} → isInRange (getD log (at + 2) 0) (leAt log (at + 3) 2) ≡ b → isInRange (directionIn (drop at log)) (lengthIn (drop at log)) ≡ b
       range r = rw (getD-drop at log 2 0, le-drop log at 3 2) r
 
-      pub out-of-range : isInRange (getD log (at + 2) 0) (leAt log (at + 3) 2) ≡ false → readAt log at ≡ none 23
+      pub out-of-range : isInRange (getD log (at + 2) 0) (leAt log (at + 3) 2) ≡ false → readAt log at ≡ noRecord 23
       out-of-range r = by-front inside (front-range (drop at log) long mark (range r))
 
       module _ (r : isInRange (getD log (at + 2) 0) (leAt log (at + 3) 2) ≡ true) where
-        pub body-cut : length log < at + 5 + leAt log (at + 3) 2 → readAt log at ≡ none 22
+        pub body-cut : length log < at + 5 + leAt log (at + 3) 2 → readAt log at ≡ noRecord 22
         body-cut l =
             by-front inside (front-cut (drop at log) long mark (range r) (omega (arith, length-drop at log, le-drop log at 3 2)))
 

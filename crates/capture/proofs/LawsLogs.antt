@@ -1,12 +1,13 @@
--- Laws of a log read from its front: as many steps as there are octets are enough, and what one step gives.
+-- Laws of whole logs: as many steps as there are octets are enough to read one, what a step gives, and one record more.
 use mathlib.Core.Path.{_≡_, refl, sym, ap, _∙_}
-use mathlib.Core.List.{List}
+use mathlib.Core.List.{List, [], _∷_, _++_, foldl-append}
 use Prim.Native.Nat.{ℕ, zero, suc, _+_, _≤_}
 use native.Mathlib.Omega.{arith}
 use lib.ListN.{length, drop, length-drop}
 use Rattle.capture.specs.declared.records.Record.{Record}
-use Rattle.capture.specs.Reading.{Report, one, none, lengthIn, readFront}
-use Rattle.capture.specs.Logs.{entryOf, Entries, ended, withEntry, entriesBy, entriesWithin, entriesIn}
+use Rattle.capture.specs.Records.{Entry, Good}
+use Rattle.capture.specs.Reading.{Report, one, noRecord, lengthIn, readFront}
+use Rattle.capture.specs.Logs.{AllGood, none, more, entryOf, Entries, ended, withEntry, entriesBy, entriesWithin, entriesIn, unwritten, writeNext, writeAll}
 use Rattle.capture.proofs.LawsReading.{front-end, FrontCase, nothing, found, front-case}
 
 -- what is read behind a record, which stands before its last octet, decides the rest
@@ -37,10 +38,20 @@ entries-step log =
     (λ next some most. enough (length log) (length (drop next log)) (drop next log) (omega (arith, length-drop next log)) (omega arith))
 
 module _ (log : List ℕ) where
-  pub entries-end : {n : ℕ} → readFront log ≡ none n → entriesIn log ≡ ended n
+  pub entries-end : {n : ℕ} → readFront log ≡ noRecord n → entriesIn log ≡ ended n
   unfolding entriesBy
   entries-end e = entries-step log ∙ rw e
 
   pub entries-next : {r : Record} → readFront log ≡ one r → entriesIn log ≡ withEntry (entryOf log r) (entriesIn (drop (r .next) log))
   unfolding entriesBy
   entries-next e = entries-step log ∙ rw e
+
+-- ---- one record more
+
+pub good-then : {es : List Entry} {e : Entry} → AllGood es → Good e → AllGood (es ++ (e ∷ []))
+good-then none g = more g none
+good-then (more h hs) g = more h (good-then hs g)
+
+pub write-then : (space : List ℕ) (es : List Entry) (e : Entry) → writeAll space (es ++ (e ∷ [])) ≡ writeNext (writeAll space es) e
+unfolding writeAll
+write-then space es e = foldl-append writeNext (unwritten space) es (e ∷ [])

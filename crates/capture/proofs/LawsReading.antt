@@ -1,43 +1,61 @@
 -- Laws of the record at the front of octets, case by case, and of the one at a place.
-use mathlib.Core.Path.{_≡_, ap}
+use mathlib.Core.Path.{_≡_, sym, ap, ap₂, _∙_}
 use mathlib.Core.Bool.{true, false}
-use mathlib.Core.List.{List}
+use mathlib.Core.List.{List, _++_}
 use Prim.Native.Nat.{ℕ, _+_, _≤_, _<_}
 use native.Mathlib.Omega.{arith}
 use borrow.Author.Tests.{eq-eqb, ne-eqb, lt-ltb, le-ltb, ltb-false}
 use lib.Dec.{eqb, ltb}
-use lib.ListN.{length, drop}
+use lib.ListN.{length, take, drop, length-append, length-drop, List·getD-append}
+use lib.Seq.{take-append-le, drop-append-le}
+use Rattle.octets.specs.LittleEndian.{le, leAt}
 use Rattle.octets.proofs.LawsTests.{chosen, impossible}
 use Rattle.capture.specs.declared.records.Record.{Record}
 use Rattle.capture.specs.Records.{headSize, isInRange}
-use Rattle.capture.specs.Reading.{Report, one, none, hasMark, directionIn, lengthIn, recordIn, readFront, placed, readAt}
+use Rattle.capture.specs.Reading.{Report, one, noRecord, hasMark, directionIn, lengthIn, recordIn, readFront, placed, readAt}
 
 module _ (xs : List ℕ) where
-  pub front-end : length xs ≡ 0 → readFront xs ≡ none 0
+  pub front-end : length xs ≡ 0 → readFront xs ≡ noRecord 0
   unfolding readFront
   front-end h = rw (eq-eqb (length xs) 0 h)
 
-  pub front-few : 0 < length xs → length xs < headSize → readFront xs ≡ none 22
+  pub front-few : 0 < length xs → length xs < headSize → readFront xs ≡ noRecord 22
   unfolding readFront
   front-few some few = rw (ne-eqb (length xs) 0 (λ z. omega arith), lt-ltb (length xs) headSize few)
 
   module _ (head : headSize ≤ length xs) where
-    pub front-mark : hasMark xs ≡ false → readFront xs ≡ none 21
+    pub front-mark : hasMark xs ≡ false → readFront xs ≡ noRecord 21
     unfolding readFront
     front-mark m = rw (ne-eqb (length xs) 0 (λ z. omega arith), le-ltb (length xs) headSize head, m)
 
-    pub front-range : hasMark xs ≡ true → isInRange (directionIn xs) (lengthIn xs) ≡ false → readFront xs ≡ none 23
+    pub front-range : hasMark xs ≡ true → isInRange (directionIn xs) (lengthIn xs) ≡ false → readFront xs ≡ noRecord 23
     unfolding readFront
     front-range m r = rw (ne-eqb (length xs) 0 (λ z. omega arith), le-ltb (length xs) headSize head, m, r)
 
     module _ (m : hasMark xs ≡ true) (r : isInRange (directionIn xs) (lengthIn xs) ≡ true) where
-      pub front-cut : length xs < headSize + lengthIn xs → readFront xs ≡ none 22
+      pub front-cut : length xs < headSize + lengthIn xs → readFront xs ≡ noRecord 22
       unfolding readFront
       front-cut l = rw (ne-eqb (length xs) 0 (λ z. omega arith), le-ltb (length xs) headSize head, m, r, lt-ltb _ _ l)
 
       pub front-whole : headSize + lengthIn xs ≤ length xs → readFront xs ≡ one (recordIn xs)
       unfolding readFront
       front-whole l = rw (ne-eqb (length xs) 0 (λ z. omega arith), le-ltb (length xs) headSize head, m, r, le-ltb _ _ l)
+
+-- ---- octets behind a head change nothing in it
+
+module _ (xs ys : List ℕ) (head : headSize ≤ length xs) where
+  mark-then : hasMark (xs ++ ys) ≡ hasMark xs
+  unfolding hasMark
+  mark-then = rw (List·getD-append xs ys 0 0 (omega arith), List·getD-append xs ys 0 1 (omega arith))
+
+  direction-then : directionIn (xs ++ ys) ≡ directionIn xs
+  direction-then = List·getD-append xs ys 0 2 (omega arith)
+
+  pub length-then : lengthIn (xs ++ ys) ≡ lengthIn xs
+  unfolding leAt
+  length-then =
+      ap (λ zs. le (take 2 zs)) (drop-append-le 3 xs ys (omega arith))
+      ∙ ap le (take-append-le 2 (drop 3 xs) ys (omega (arith, length-drop 3 xs)))
 
 -- ---- the record at a place
 
@@ -48,7 +66,7 @@ read-from log at h = rw (le-ltb (length log) at h)
 -- ---- by cases on what stands at the front
 
 pub data FrontCase (xs : List ℕ) : Report → Type 0 where
-  nothing : (n : ℕ) → FrontCase xs (none n)
+  nothing : (n : ℕ) → FrontCase xs (noRecord n)
   found : headSize ≤ length xs → hasMark xs ≡ true → isInRange (directionIn xs) (lengthIn xs) ≡ true → headSize + lengthIn xs ≤ length xs
       → FrontCase xs (one (recordIn xs))
 
@@ -78,3 +96,19 @@ front-found {xs} {r} e = by-case (front-case xs) e
     by-case : {q : Report} → FrontCase xs q → q ≡ one r → Front xs r
     by-case (nothing n) e = impossible (cc (ap (λ p. p .found) e))
     by-case (found h m g l) e = record { is = cc (ap (λ p. p .found) e); head = h; mark = m; range = g; inside = l }
+
+-- a record at the front is there whatever stands behind it
+pub front-then : {xs : List ℕ} {r : Record} (ys : List ℕ) → Front xs r → Front (xs ++ ys) r
+front-then {xs} ys f =
+    let direction = direction-then xs ys (f .head) in
+    let len = length-then xs ys (f .head) in
+    record {
+      is = f .is ∙ sym (ap₂ (λ d n. record { direction = d; start = headSize; len = n; next = headSize + n }) direction len);
+      head = omega (arith, f .head, length-append xs ys);
+      mark = mark-then xs ys (f .head) ∙ f .mark;
+      range = ap₂ isInRange direction len ∙ f .range;
+      inside = omega (arith, f .inside, len, length-append xs ys);
+    }
+
+pub front-is : {xs : List ℕ} {r : Record} → Front xs r → readFront xs ≡ one r
+front-is {xs} f = front-whole xs (f .head) (f .mark) (f .range) (f .inside) ∙ sym (ap one (f .is))

@@ -1,14 +1,15 @@
 -- PROMISE: whatever is read as a record is exactly what is written for it, so that a record has one spelling; it lies in the log and goes on by
--- seven octets at least. And at a place not past the end the answer depends on the octets from it on alone, its places counted from there.
+-- seven octets at least. At a place not past the end the answer depends on the octets from it on alone, its places counted from there; and on
+-- what stands behind a record that is found there it does not depend.
 use mathlib.Core.Path.{_≡_, refl, sym, ap, ap₂, _∙_}
-use mathlib.Core.List.{List, [], _∷_, map}
+use mathlib.Core.List.{List, [], _∷_, _++_, map}
 use Prim.Native.Nat.{ℕ, _+_, _-_, _≤_}
 use native.Mathlib.Omega.{arith}
 use native.Mathlib.Nat.{zero-add}
 use borrow.Author.Tests.{eqb-true, le-ltb, ltb-false}
 use lib.Dec.{ltb}
-use lib.ListN.{length, getD, take, drop, length-drop}
-use lib.Seq.{take-add, drop-drop, length-take-le}
+use lib.ListN.{length, getD, take, drop, length-append, length-drop}
+use lib.Seq.{take-add, take-append-le, drop-append-le, drop-drop, length-take-le}
 use Rattle.octets.specs.Octets.{Octets}
 use Rattle.octets.specs.LittleEndian.{le, leAt, leOctets}
 use Rattle.octets.proofs.LawsLists.{octets-drop, octets-take}
@@ -19,7 +20,7 @@ use Rattle.capture.specs.Records.{entry, recordOf, Good}
 use Rattle.capture.specs.Reading.{Report, one, hasMark, directionIn, lengthIn, recordIn, readFront, shifted, placed, readAt}
 use Rattle.capture.specs.Logs.{entryOf}
 use Rattle.capture.proofs.LawsRecords.{range-good}
-use Rattle.capture.proofs.LawsReading.{FrontCase, nothing, found, front-case, Front, read-from}
+use Rattle.capture.proofs.LawsReading.{FrontCase, nothing, found, front-case, Front, read-from, front-then, front-is}
 
 -- ---- at the front
 
@@ -113,3 +114,21 @@ module _ (log : List ℕ) (at : ℕ) where
         good = rw body g;
         octets = rw (part, body) (front-octets xs (f .1) (octets-drop at log o));
       })
+
+-- what stands behind a record changes nothing in it
+pub record-then : (log more : List ℕ) (at : ℕ) {r : Record} → readAt log at ≡ one r
+    → (readAt (log ++ more) at ≡ one r) × (entryOf (log ++ more) r ≡ entryOf log r)
+unfolding entryOf placed
+record-then log more at e =
+    let f = front-at log at e in
+    let xs : List ℕ = drop at log in
+    let n : ℕ = lengthIn xs in
+    let size : length xs ≡ length log - at = length-drop at log in
+    let from : drop at (log ++ more) ≡ xs ++ more = drop-append-le at log more (f .0) in
+    let start : drop (at + 5) (log ++ more) ≡ drop (at + 5) log ++ more = drop-append-le (at + 5) log more (omega (arith, f .1 .head)) in
+    rw (f .2) (
+      read-from (log ++ more) at (omega (arith, length-append log more)) ∙ ap (placed at) (ap readFront from ∙ front-is (front-then more (f .1))),
+      ap (λ ys. record { direction = directionIn xs; body = take n ys }) start
+          ∙ ap (λ ys. record { direction = directionIn xs; body = ys })
+          (take-append-le n (drop (at + 5) log) more (omega (arith, f .1 .inside, length-drop (at + 5) log))),
+    )

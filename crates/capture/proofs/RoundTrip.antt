@@ -13,7 +13,7 @@ use Rattle.capture.specs.declared.records.Record.{Record}
 use Rattle.capture.specs.Records.{Entry, recordOf, Good}
 use Rattle.capture.specs.Reading.{one, hasMark, lengthIn, readFront, placed, readAt}
 use Rattle.capture.specs.Writing.{Report, put}
-use Rattle.capture.specs.Logs.{logOf, AllGood, none as no-entry, more, entryOf, withEntry, entriesIn, unwritten, writeNext, numbersFrom, writeAll}
+use Rattle.capture.specs.Logs.{logOf, AllGood, none, more, entryOf, withEntry, entriesIn, unwritten, writeNext, numbersFrom, writeAll}
 use Rattle.capture.proofs.LawsRecords.{record-length, good-range, length-back}
 use Rattle.capture.proofs.LawsReading.{front-whole, front-end, read-from}
 use Rattle.capture.proofs.Answers.{write-fits}
@@ -76,7 +76,7 @@ module _ (before after : List ℕ) (e : Entry) (g : Good e) where
 pub log-then : {es : List Entry} (rest : List ℕ) → AllGood es
     → entriesIn (logOf es ++ rest) ≡ record { entries = es ++ entriesIn rest .entries; fault = entriesIn rest .fault }
 unfolding logOf
-log-then rest no-entry = refl
+log-then rest none = refl
 log-then rest (more {e} {es} g gs) =
     let xs : List ℕ = logOf es ++ rest in
     ap entriesIn (append-assoc (recordOf e) (logOf es) rest)
@@ -88,6 +88,14 @@ log-back {es} g =
     let end : entriesIn [] ≡ record { entries = []; fault = 0 } = entries-end [] (front-end [] refl) in
     rw (append-nil (logOf es), end, append-nil es) at (log-then [] g)
 
+-- so no two entries have one record
+pub record-same : {e f : Entry} → Good e → Good f → recordOf e ≡ recordOf f → e ≡ f
+unfolding logOf
+record-same {e} {f} g h s =
+    let same : e ∷ [] ≡ f ∷ [] =
+    ap (λ q. q .entries) (sym (log-back (more g none)) ∙ ap (λ xs. entriesIn (xs ++ [])) s ∙ log-back (more h none)) in
+    cc same
+
 -- ---- a log that is written record by record
 
 -- from any place, where it fits: each call answers 0 and goes on where the last one stopped
@@ -98,7 +106,7 @@ record WroteAll (w : Report) (es : List Entry) (xs : List ℕ) : Type 0 where
 
 wrote-all : {es : List Entry} (w : Report) → AllGood es → w .next + length (logOf es) ≤ length (w .space) → WroteAll w es (logOf es)
 unfolding logOf writeNext put
-wrote-all w no-entry room = record { numbers = refl; next = omega arith; held = refl }
+wrote-all w none room = record { numbers = refl; next = omega arith; held = refl }
 wrote-all w (more {e} {es} g gs) room =
     let size = length-append (recordOf e) (logOf es) in
     let v : Report = put (w .space) (w .next) (recordOf e) in

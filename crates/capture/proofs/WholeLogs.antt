@@ -11,9 +11,9 @@ use Rattle.octets.proofs.LawsLists.{octets-drop}
 use Rattle.octets.proofs.LawsTests.{impossible}
 use Rattle.capture.specs.declared.records.Record.{Record}
 use Rattle.capture.specs.Records.{recordOf}
-use Rattle.capture.specs.Reading.{Report, one, none, lengthIn, readFront, placed, readAt}
-use Rattle.capture.specs.Logs.{logOf, AllGood, none as no-entry, more, entryOf, Entries, withEntry, ended, entriesIn}
-use Rattle.capture.proofs.LawsReading.{front-whole, FrontCase, nothing, found, front-case, Front, read-from}
+use Rattle.capture.specs.Reading.{Report, one, noRecord, lengthIn, recordIn, readFront, placed, readAt}
+use Rattle.capture.specs.Logs.{logOf, AllGood, none, more, entryOf, Entries, withEntry, ended, entriesIn}
+use Rattle.capture.proofs.LawsReading.{FrontCase, nothing, found, front-case, Front, read-from, front-is}
 use Rattle.capture.proofs.LawsLogs.{entries-end, entries-next}
 use Rattle.capture.proofs.OneRecord.{front-octets, front-good, at-front, front-at}
 
@@ -27,14 +27,14 @@ module _ (log : List ℕ) (at : ℕ) where
       let xs : List ℕ = drop at log in
       let n : ℕ = lengthIn xs in
       rw (f .2)
-      (entries-next xs (front-whole xs (f .1 .head) (f .1 .mark) (f .1 .range) (f .1 .inside))
+      (entries-next xs (front-is (f .1))
       ∙ rw (drop-drop 5 at log, drop-drop (5 + n) at log))
 
-  pub call-end : {n : ℕ} → at ≤ length log → readAt log at ≡ none n → entriesIn (drop at log) ≡ ended n
+  pub call-end : {n : ℕ} → at ≤ length log → readAt log at ≡ noRecord n → entriesIn (drop at log) ≡ ended n
   unfolding placed
   call-end {n} h e = entries-end (drop at log) (by-case (front-case (drop at log)) (sym (read-from log at h) ∙ e))
     where
-      by-case : {q : Report} → FrontCase (drop at log) q → placed at q ≡ none n → q ≡ none n
+      by-case : {q : Report} → FrontCase (drop at log) q → placed at q ≡ noRecord n → q ≡ noRecord n
       by-case (nothing m) p = cc (ap (λ q. q .number) p)
       by-case (found h m g l) p = impossible (cc (ap (λ q. q .found) p))
 
@@ -45,14 +45,14 @@ pub record Laid (log : List ℕ) (q : Entries) : Type 0 where
   pub good : AllGood (q .entries)
   pub rest : List ℕ
   pub laid : log ≡ logOf (q .entries) ++ rest
-  pub ends : readAt rest 0 ≡ none (q .fault)
+  pub ends : readAt rest 0 ≡ noRecord (q .fault)
 
-laid-next : (log : List ℕ) {r : Record} → Octets log → Front log r → Laid (drop (r .next) log) (entriesIn (drop (r .next) log)) → Laid log (entriesIn log)
+laid-next : (log : List ℕ) → Octets log → Front log (recordIn log) → Laid (drop (5 + lengthIn log) log) (entriesIn (drop (5 + lengthIn log) log))
+    → Laid log (entriesIn log)
 unfolding entryOf logOf
-laid-next log {r} o f l =
+laid-next log o f w =
     let k : ℕ = 5 + lengthIn log in
-    let w : Laid (drop k log) (entriesIn (drop k log)) = rw (f .is) at l in
-    rw (entries-next log (front-whole log (f .head) (f .mark) (f .range) (f .inside)))
+    rw (entries-next log (front-is f))
     (record {
       good = more (front-good log f) (w .good);
       rest = w .rest;
@@ -68,7 +68,7 @@ unfolding logOf
 laid-step log o rest = by-case (front-case log) refl
   where
     by-case : {q : Report} → FrontCase log q → readFront log ≡ q → Laid log (entriesIn log)
-    by-case (nothing m) e = rw (entries-end log e) (record { good = no-entry; rest = log; laid = refl; ends = at-front log ∙ e })
+    by-case (nothing m) e = rw (entries-end log e) (record { good = none; rest = log; laid = refl; ends = at-front log ∙ e })
     by-case (found h m g l) e =
         laid-next log o (record { is = refl; head = h; mark = m; range = g; inside = l }) (rest (5 + lengthIn log) (omega arith) l)
 

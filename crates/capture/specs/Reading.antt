@@ -19,15 +19,15 @@ pub record Report : Type 0 where
 abbrev pub one : Record → Report
 one r = record { number = 0; found = r ∷ [] }
 
-abbrev pub none : ℕ → Report
-none n = record { number = n; found = [] }
+abbrev pub noRecord : ℕ → Report
+noRecord n = record { number = n; found = [] }
 
 abbrev pub reported : Found → Report
 reported (At r) = one r
-reported NoMore = none 0
-reported BadMark = none 21
-reported CutOff = none 22
-reported OutOfRange = none 23
+reported NoMore = noRecord 0
+reported BadMark = noRecord 21
+reported CutOff = noRecord 22
+reported OutOfRange = noRecord 23
 
 -- ---- the record at the front of octets
 
@@ -48,13 +48,13 @@ recordIn xs = record { direction = directionIn xs; start = headSize; len = lengt
 -- length demands"; where none is left, there are no more: "At the end exactly"
 unfoldable pub readFront : List ℕ → Report
 readFront xs =
-    cond (eqb (length xs) 0) (none 0)
-    (cond (ltb (length xs) headSize) (none 22)
+    cond (eqb (length xs) 0) (noRecord 0)
+    (cond (ltb (length xs) headSize) (noRecord 22)
     (cond (hasMark xs)
     (cond (isInRange (directionIn xs) (lengthIn xs))
-    (cond (ltb (length xs) (headSize + lengthIn xs)) (none 22) (one (recordIn xs)))
-    (none 23))
-    (none 21)))
+    (cond (ltb (length xs) (headSize + lengthIn xs)) (noRecord 22) (one (recordIn xs)))
+    (noRecord 23))
+    (noRecord 21)))
 
 -- ---- at a place, from which places are counted on
 
@@ -66,4 +66,4 @@ placed n r = record { number = r .number; found = map (shifted n) (r .found) }
 
 -- "a place past the end is 22 when reading"
 unfoldable pub readAt : List ℕ → ℕ → Report
-readAt log at = cond (ltb (length log) at) (none 22) (placed at (readFront (drop at log)))
+readAt log at = cond (ltb (length log) at) (noRecord 22) (placed at (readFront (drop at log)))

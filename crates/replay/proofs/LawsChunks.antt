@@ -8,7 +8,7 @@ use Prim.Native.Nat.{ℕ, _+_, _≤_}
 use native.Mathlib.Omega.{arith}
 use borrow.Author.Tests.{eq-eqb, ne-eqb, eqb-true, eqb-false}
 use lib.Dec.{eqb}
-use lib.ListN.{length, take, length-take}
+use lib.ListN.{length, take, drop, length-take, take-append-drop}
 use lib.Seq.{take-take, take-at, length-take-le}
 use Rattle.octets.specs.Body.{maxBody}
 use Rattle.octets.proofs.LawsTests.{by-test, chosen, both-told, impossible}
@@ -16,11 +16,11 @@ use Rattle.capture.specs.declared.records.Record.{Record}
 use Rattle.capture.specs.declared.reading.Found.{Found}
 use Rattle.capture.specs.declared.reading.Found.the-variants.{At, NoMore, BadMark, CutOff, OutOfRange}
 use Rattle.capture.specs.Records.{headSize, isInRange}
-use Rattle.capture.specs.Reading.{one, none, reported, hasMark, directionIn, lengthIn, readFront, readAt}
+use Rattle.capture.specs.Reading.{one, noRecord, reported, hasMark, directionIn, lengthIn, readFront, readAt}
 use Rattle.capture.specs.Logs.{entryOf}
 use Rattle.capture.proofs.reading.Found.{the-type as found-type}
 use Rattle.capture.proofs.LawsRecords.{range-told}
-use Rattle.capture.proofs.LawsReading.{front-mark, front-range}
+use Rattle.capture.proofs.LawsReading.{front-mark, front-range, length-then, Front}
 use Rattle.capture.proofs.OneRecord.{at-front}
 use Rattle.replay.specs.Chunks.{bodyLeft, IsChunk, entryIn}
 
@@ -56,7 +56,7 @@ module _ (xs : List ℕ) where
     unfolding bodyLeft
     left-by e = rw (eq-eqb (length xs) headSize five, e)
 
-    pub left-body : readAt xs 0 ≡ none 22 → bodyLeft xs ≡ lengthIn xs
+    pub left-body : readAt xs 0 ≡ noRecord 22 → bodyLeft xs ≡ lengthIn xs
     left-body e = left-by (ap (λ q. q .number) (sym (at-front xs) ∙ e))
 
     other-number : (f : Found) → OneOf (0 ∷ 1 ∷ 2 ∷ 4 ∷ []) (tagOf found-type f) → eqb (reported f .number) 22 ≡ false
@@ -95,5 +95,21 @@ read-is-chunk xs ys h k few room more =
     let front : take headSize (take (h + k) (take h xs ++ ys)) ≡ take h xs =
     take-take headSize (h + k) (take h xs ++ ys) (omega arith) ∙ take-at (take h xs) ys headSize (length-take-le h xs room ∙ five) in
     rw front (omega (arith, length-take (h + k) (take h xs ++ ys))))
-    (λ t. let none : bodyLeft (take h xs) ≡ 0 = left-no-head (take h xs) (λ e. eqb-false h headSize t (sym (length-take-le h xs room) ∙ e)) in
+    (λ t. let nothing : bodyLeft (take h xs) ≡ 0 = left-no-head (take h xs) (λ e. eqb-false h headSize t (sym (length-take-le h xs room) ∙ e)) in
     omega (arith, length-take (h + k) (take h xs ++ ys)))
+
+-- ---- a chunk that is a record is nothing else
+
+pub left-length : (xs : List ℕ) → bodyLeft xs ≤ lengthIn xs
+unfolding bodyLeft
+left-length xs =
+    chosen (λ n. n ≤ lengthIn xs) (eqb (length xs) headSize && eqb (readFront xs .number) 22) (λ _. omega arith) (λ _. omega arith)
+
+pub chunk-size : (xs : List ℕ) {r : Record} → IsChunk xs → Front xs r → length xs ≡ r .next
+unfolding IsChunk
+chunk-size xs p f =
+    let head : List ℕ = take headSize xs in
+    let five : length head ≡ headSize = length-take-le headSize xs (f .head) in
+    let same : lengthIn xs ≡ lengthIn head =
+    ap lengthIn (sym (take-append-drop headSize xs)) ∙ length-then head (drop headSize xs) (omega arith) in
+    rw (f .is) (omega (arith, p, left-length head, same, f .inside))

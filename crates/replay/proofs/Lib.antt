@@ -1,6 +1,5 @@
 pub mod LawsPlay
 pub mod LawsChunks
-pub mod LawsLogChunks
 pub mod LawsRun
 pub mod JustBefore
 pub mod Replays

@@ -1,9 +1,9 @@
 -- A log's octets, read a record at a time. A chunk is what is read for one record: its head, and then the body that the head announces.
 use mathlib.Core.Bool.{Bool, true, false, cond, _&&_}
 use mathlib.Core.List.{List, [], _∷_, map}
-use Prim.Native.Nat.{ℕ, zero, suc, _+_, _≤_}
+use Prim.Native.Nat.{ℕ, _+_, _≤_}
 use lib.Dec.{eqb}
-use lib.ListN.{length, take, drop}
+use lib.ListN.{length, take}
 use Rattle.octets.specs.Body.{maxBody}
 use Rattle.capture.specs.Records.{Entry, headSize}
 use Rattle.capture.specs.Reading.{lengthIn, readFront}
@@ -23,10 +23,6 @@ bodyLeft xs = cond (eqb (length xs) headSize && eqb (readFront xs .number) 22) (
 unfoldable pub IsChunk : List ℕ → Type 0
 IsChunk xs = length xs ≤ headSize + bodyLeft (take headSize xs)
 
--- the chunk at the front of a log, where each read gives all that it asks for, or all that is left
-unfoldable pub chunk : List ℕ → List ℕ
-chunk log = take (headSize + bodyLeft (take headSize log)) log
-
 -- ---- chunks played one after the other
 
 -- the record at the front of a chunk, if there is one
@@ -42,12 +38,3 @@ afterChunk s xs = afterAll s (entryIn xs)
 
 unfoldable pub chunkLines : State → List ℕ → List Bool
 chunkLines s xs = linesFrom s (entryIn xs)
-
--- the chunks of a log, up to the first that is no record
-unfoldable pub chunksWithin : ℕ → List ℕ → List (List ℕ)
-chunksWithin zero log = []
-chunksWithin (suc n) log = chunk log ∷ cond (isNone (entryIn (chunk log))) [] (chunksWithin n (drop (length (chunk log)) log))
-
--- a record has seven octets at least, so that one chunk more than octets is enough
-unfoldable pub chunksOf : List ℕ → List (List ℕ)
-chunksOf log = chunksWithin (suc (length log)) log

@@ -1,5 +1,5 @@
 -- The program's chunks, one after the other.
-use mathlib.Core.Bool.{true}
+use mathlib.Core.Bool.{true, false}
 use mathlib.Core.Logic.{_⊎_}
 use mathlib.Core.List.{List, [], _∷_, foldl}
 use mathlib.Core.Path.{_≡_}
@@ -22,19 +22,27 @@ pub record Turned (s : State) (t : Turn) (xs : List ℕ) : Type 0 where
   pub ended : t .ended ≡ isNone (entryIn xs)
   pub read : t .read ≡ length xs
 
-pub data AllChunks : List (List ℕ) → Type 0 where
-  none : AllChunks []
-  more : {xs : List ℕ} {xss : List (List ℕ)} → IsChunk xs → AllChunks xss → AllChunks (xs ∷ xss)
+-- chunks that are records
+pub data AllRecords : List (List ℕ) → Type 0 where
+  none : AllRecords []
+  more : {xs : List ℕ} {xss : List (List ℕ)} → IsChunk xs → isNone (entryIn xs) ≡ false → AllRecords xss → AllRecords (xs ∷ xss)
 
--- the box stands where some chunks leave it. Which chunks came is the operating system's part
+-- the box stands where so many chunks leave it, all of them records. Which chunks came is the operating system's part
 pub record Ran (s : State) (t : Turn) (n : ℕ) : Type 0 where
   pub chunks : List (List ℕ)
-  pub all : AllChunks chunks
+  pub all : AllRecords chunks
   pub count : length chunks ≡ n
   pub left : stateOf (t .playback) ≡ foldl afterChunk s chunks
 
--- the program ends when a chunk was no record, when a line could not be written, or after all its chunks
+-- the chunk behind them is no record: the log ends there, or is at fault
+pub record NoRecord (t : Turn) : Type 0 where
+  pub last : List ℕ
+  pub fits : IsChunk last
+  pub none : isNone (entryIn last) ≡ true
+  pub read : t .read ≡ length last
+
+-- the program ends at the first chunk that is no record, when a line could not be written, or after all its chunks
 pub record Ended (s : State) (p : Progress) : Type 0 where
   pub turns : ℕ
   pub ran : Ran s (p .turn) turns
-  pub why : (p .turn .ended ≡ true) ⊎ ((p .stopped ≡ true) ⊎ (turns ≡ maxChunks))
+  pub why : NoRecord (p .turn) ⊎ ((p .stopped ≡ true) ⊎ (turns ≡ maxChunks))

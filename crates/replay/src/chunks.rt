@@ -23,8 +23,8 @@ fn body_left(octets: &[u8]) -> usize
     0
 }
 
-// Reads the next record to the front of the space, and no octet of the one behind it. Returns how many octets came: fewer where the input ends,
-// and only five where they are no good head.
+// Reads the next record to the front of the space, and no octet of the one behind it. Returns how many octets came: fewer where the input ends
+// or a read fails, and only five where they are no good head.
 pub fn read_chunk(space: &mut [u8]) -> usize
     requires { ⌜ length (now space) ≡ maxRecord ⌝ }
     ensures room { λ n. ⌜ n ≤ length (now (space .exit)) ⌝ }

@@ -68,8 +68,8 @@ impl Playback {
         }
     }
 
-    // Whether a body from the box is the reply.
-    fn compared(self, body: &[u8]) -> Line
+    // For a body from the box: whether it is the reply.
+    fn line_for(self, body: &[u8]) -> Line
         requires { ⌜ Keeps self ⌝ }
         ensures { λ r. ⌜ yesOrNo r ≡ isSame (stateOf self .reply) (now (body .entry)) ∷ [] ⌝ }
     {
@@ -98,7 +98,7 @@ impl Playback {
         }
         Played {
             playback: Playback::silent(device),
-            line: self.compared(body),
+            line: self.line_for(body),
         }
     }
 }

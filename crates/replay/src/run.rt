@@ -18,7 +18,7 @@ ghost use Rattle.replay.specs.Run.{Turned, Ended};
 pub struct Turn {
     pub playback: Playback,
     pub line: Line,
-    // How many octets the chunk has.
+    // How many octets the chunk has. The contracts speak of them; the program does not need it.
     pub read: usize,
     // The chunk is no record: the log ends there, or is at fault. This ends the program.
     pub ended: bool,

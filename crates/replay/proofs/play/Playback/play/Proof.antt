@@ -15,4 +15,4 @@ play-spec =
     (λ c. rw (eq-eqb _ _ (c .before .if1 .taken)) (c .delivered .ensures .0, (c .delivered .ensures .1, refl)))
     (λ c κs. search needs)
     (λ c κs. search needs)
-    (λ c. let s = c .before .silent .ensures in rw (ne-eqb _ _ (c .before .before .if1 .left)) (s .0, (s .1, c .compared .ensures))))
+    (λ c. let s = c .before .silent .ensures in rw (ne-eqb _ _ (c .before .before .if1 .left)) (s .0, (s .1, c .line-for .ensures))))

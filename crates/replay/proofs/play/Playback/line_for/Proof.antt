@@ -3,11 +3,11 @@ use mathlib.Core.List.{[], _∷_}
 use mathlib.Core.Path.{sym, ap, _∙_}
 use borrow.Author.Needs.{needs}
 use lib.Seq.{length-take-le}
-use Rattle.replay.proofs.play.Playback.compared.Statement.{statement}
-use Rattle.replay.proofs.play.Playback.compared.Tie as tie
+use Rattle.replay.proofs.play.Playback.line_for.Statement.{statement}
+use Rattle.replay.proofs.play.Playback.line_for.Tie as tie
 
-pub compared-spec : {M : Type 1} → statement M
-compared-spec =
+pub line-for-spec : {M : Type 1} → statement M
+line-for-spec =
     tie.close
     (tie.spec
     (λ c. search needs)
