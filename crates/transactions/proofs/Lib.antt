@@ -1,0 +1,5 @@
+pub mod LawsDigits
+pub mod LawsMarks
+pub mod LawsTable
+pub mod LawsKind
+pub mod LawsCalls

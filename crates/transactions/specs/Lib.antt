@@ -1,0 +1,4 @@
+pub mod Answer
+pub mod NumberSet
+pub mod Kind
+pub mod Table
