@@ -11,7 +11,7 @@ use lib.Bits.{bitAnd, bitOr}
 use Rattle.octets.proofs.LawsTests.{by-test, and-l, and-r, impossible}
 use Rattle.transactions.specs.declared.table.Table.{Table}
 use Rattle.transactions.specs.NumberSet.{digits}
-use Rattle.transactions.specs.Table.{Mark, free, waiting, given-up, both, mark, marksOf, Numbers, numbersOf, markAt, put, isFree, isWaiting, isBoth, anyBoth, rules, firstFree, lowest}
+use Rattle.transactions.specs.Table.{Mark, free, waiting, given-up, both, mark, marksOf, Numbers, numbersOf, markAt, put, isFree, isWaiting, isBoth, anyBoth, Rules, rules, firstFree, lowest}
 use Rattle.transactions.proofs.LawsDigits.{length-digits, digit-small, digit-past, digits-kept}
 use Rattle.transactions.proofs.LawsMarks.{marks-at, marks-set, isFree-lowest, anyBoth-and}
 
@@ -49,6 +49,9 @@ no-both (m ∷ ms) (suc n) e = no-both ms n (by-test (isBoth m) (λ t. cc) (λ f
 pub never-both : (d : Numbers) (n : ℕ) → rules d ≡ true → isBoth (markAt d n) ≡ false
 unfolding rules
 never-both d n e = no-both (d .marks) n (not-true (anyBoth (d .marks)) (and-r (isFree (markAt d 0)) _ e))
+
+pub rules-told : (d : Numbers) → rules d ≡ true → Rules d
+rules-told d e = record { zero = zero-free d e; apart = λ n b. let no = never-both d n e in let yes = ap isBoth b in impossible cc }
 
 -- ---- a number's mark by its two digits
 

@@ -3,3 +3,9 @@ pub mod LawsMarks
 pub mod LawsTable
 pub mod LawsKind
 pub mod LawsCalls
+pub mod TableRules
+pub mod LawsFlight
+pub mod LawsExchange
+pub mod NoStranger
+pub mod EachMatched
+pub mod NothingOlder

@@ -2,3 +2,5 @@ pub mod Answer
 pub mod NumberSet
 pub mod Kind
 pub mod Table
+pub mod Writing
+pub mod Exchange

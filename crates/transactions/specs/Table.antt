@@ -1,6 +1,8 @@
 -- The host's table of transaction numbers (02, T-06). 02 calls it the desk: "It holds numbers 1 to 15, each free, waiting or given up."
 use mathlib.Core.Bool.{Bool, true, false, cond, not, _&&_}
 use mathlib.Core.List.{List, [], _∷_}
+use mathlib.Core.Logic.{_≢_}
+use mathlib.Core.Path.{_≡_}
 use Prim.Native.Nat.{ℕ, zero, suc}
 use lib.Dec.{ltb}
 use lib.ListN.{getD, set, drop, replicate}
@@ -73,6 +75,11 @@ anyBoth [] = false
 anyBoth (m ∷ ms) = cond (isBoth m) true (anyBoth ms)
 
 -- broken by a table "with 0 marked, or a number both waiting and given up"
+pub record Rules (d : Numbers) : Type 0 where
+  pub zero : markAt d 0 ≡ free
+  pub apart : (n : ℕ) → markAt d n ≢ both
+
+-- the test that decides them (proofs/TableRules.antt)
 unfoldable pub rules : Numbers → Bool
 rules d = isFree (markAt d 0) && not (anyBoth (d .marks))
 
