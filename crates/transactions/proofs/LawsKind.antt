@@ -1,11 +1,11 @@
 -- What a body is to the table, by its octets.
 use mathlib.Core.Logic.{_≢_, _⊎_, inl, inr}
-use mathlib.Core.Path.{_≡_, refl, ap, _∙_}
+use mathlib.Core.Path.{_≡_, refl, sym, ap, subst, _∙_}
 use mathlib.Core.Bool.{true, false, cond}
 use mathlib.Core.List.{List, _∷_}
 use Prim.Native.Nat.{ℕ, _/_, _%_, _<_}
 use native.Mathlib.Omega.{arith}
-use borrow.Author.Tests.{le-ltb, eq-eqb}
+use borrow.Author.Tests.{le-ltb, eq-eqb, ltb-false, eqb-true}
 use lib.Dec.{eqb, ltb}
 use lib.ListN.{length, getD}
 use Rattle.octets.specs.Body.{minBody, maxBody, headerOf, SpinelBody}
@@ -45,6 +45,17 @@ unfolding kind
 spinel-reply b s other =
     by-test (isSame b announcement) (λ t. absurd (other (same-equal b announcement t)))
     (λ t. rw (t, le-ltb (length b) minBody (s .0), le-ltb maxBody (length b) (s .1), eq-eqb (headerOf b / 64) 2 (s .2)))
+
+-- what is no Spinel body is neither
+pub other-kind : (b : List ℕ) → (SpinelBody b → ⊥) → kind b ≡ Other
+unfolding kind
+other-kind b none =
+    by-test (isSame b announcement) (λ t. absurd (none (subst SpinelBody (sym (same-equal b announcement t)) (omega arith, omega arith, refl))))
+    (λ t. by-test (ltb (length b) minBody) (λ u. rw (t, u))
+    (λ u. by-test (ltb maxBody (length b)) (λ v. rw (t, u, v))
+    (λ v. by-test (eqb (headerOf b / 64) 2)
+    (λ w. absurd (none (ltb-false (length b) minBody u, ltb-false maxBody (length b) v, eqb-true (headerOf b / 64) 2 w)))
+    (λ w. rw (t, u, v, w)))))
 
 -- ---- a body under a header
 

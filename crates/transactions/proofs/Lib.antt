@@ -9,3 +9,7 @@ pub mod LawsExchange
 pub mod NoStranger
 pub mod EachMatched
 pub mod NothingOlder
+pub mod Lowest
+pub mod Full
+pub mod ToldByNumbers
+pub mod Answers
