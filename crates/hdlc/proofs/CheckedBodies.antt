@@ -1,23 +1,30 @@
 -- PROMISE: what a checked frame is. By the octets alone, a piece has fate 1 exactly when no escape is cut in it, the octets that it stands
 -- for are a body and that body's check, and the body has 2 to 1,300 octets and the top two header bits 10. So a call gives fate 1 for such
--- bodies only. Octets in two parts have the checked bodies of the first, and then those of the second after the piece that the first leaves
+-- bodies only, and a body with no other fate. Octets in two parts have the checked bodies of the first, and then those of the second after the piece that the first leaves
 -- open.
+use types.Run.{OneOf, miss}
+use denote.Enum.Declared.{tagOf}
+use mathlib.Core.Bool.{false, cond}
 use mathlib.Core.Logic.{⊎-elim}
-use mathlib.Core.Path.{_≡_, sym, ap, subst, _∙_}
-use mathlib.Core.List.{List, _++_}
+use mathlib.Core.Path.{_≡_, refl, sym, ap, subst, _∙_}
+use mathlib.Core.List.{List, [], _∷_, _++_, append-nil}
 use Prim.Native.Nat.{ℕ, _-_, _≤_}
 use native.Mathlib.Omega.{arith}
-use borrow.Author.Tests.{le-ltb, eq-eqb, ne-eqb}
+use borrow.Author.Tests.{le-ltb, eq-eqb, ne-eqb, eqb-true}
+use lib.Dec.{eqb}
 use lib.ListN.{length, getD, take, length-take}
 use Rattle.octets.specs.Body.{SpinelBody}
 use Rattle.octets.proofs.LawsRuns.{each-append}
-use Rattle.hdlc.specs.declared.reader.Fate.the-variants.{Checked}
+use Rattle.octets.proofs.LawsTests.{by-test}
+use Rattle.hdlc.specs.declared.reader.Fate.{Fate}
+use Rattle.hdlc.specs.declared.reader.Fate.the-variants.{Unfinished, Checked, Short, WrongCheck, TooLong, CutEscape, BadHeader}
 use Rattle.hdlc.specs.declared.reader.Reader.{Reader}
-use Rattle.hdlc.specs.Fate.{checked}
+use Rattle.hdlc.specs.Fate.{Fated, checked, given, fateNumber, bodyIn}
 use Rattle.hdlc.specs.Reader.{maxGathered, assembling, outcome, run}
 use Rattle.hdlc.specs.Rules.{Rules}
 use Rattle.hdlc.specs.Wire.{gathered, contentFate, pieceFate, CheckedPiece, finished, unfinished, fatesOf, checkedOf, checkedIn, call}
 use Rattle.hdlc.specs.States.{openPiece, closedForm}
+use Rattle.hdlc.proofs.reader.Fate.{the-type as fate-type}
 use Rattle.hdlc.proofs.LawsFates.{header-gathered, body-size, by-piece}
 use Rattle.hdlc.proofs.LawsPieces.{fates-append}
 use Rattle.hdlc.proofs.LawsCalls.{call-fate}
@@ -63,6 +70,22 @@ checked-count r a xs {n} {b = b} keeps room e =
     let body = subst SpinelBody (ap (λ o. o .fate .body) (sym e)) (checked-body r a xs keeps room (ap (λ o. o .fate .number) (sym e))) in
     let size = ap (λ o. length (o .state .assembly)) e ∙ same-room r a xs keeps room in
     (body, omega (arith, length-take n b))
+
+-- the `else` of an `if let` tells that the tag is one of the others: a fate that is not 1 has no body
+pub tag-unchecked : (f : Fate) (a : List ℕ) → OneOf (0 ∷ 2 ∷ 3 ∷ 4 ∷ 5 ∷ 6 ∷ []) (tagOf fate-type f) → (eqb (fateNumber f) 1 ≡ false) × (bodyIn f a ≡ [])
+tag-unchecked Unfinished a o = (refl, refl)
+tag-unchecked (Checked n) a o = absurd (miss (0 ∷ 2 ∷ 3 ∷ 4 ∷ 5 ∷ 6 ∷ []) 1 tt o)
+tag-unchecked Short a o = (refl, refl)
+tag-unchecked WrongCheck a o = (refl, refl)
+tag-unchecked TooLong a o = (refl, refl)
+tag-unchecked CutEscape a o = (refl, refl)
+tag-unchecked BadHeader a o = (refl, refl)
+
+-- the checked body of one fate, if it is 1
+pub checked-given : (f : Fated) → checkedOf (given f) ≡ cond (eqb (f .number) 1) (f .body ∷ []) []
+unfolding checkedOf given
+checked-given f =
+    by-test (eqb (f .number) 0) (λ t. rw (t, ap (λ n. eqb n 1) (eqb-true _ _ t))) (λ t. rw t (append-nil _))
 
 -- ---- octets in two parts
 

@@ -1,7 +1,7 @@
 -- Laws of fates: of gathered octets, and of pieces.
-use mathlib.Core.Bool.{true, false, cond}
+use mathlib.Core.Bool.{true, false}
 use mathlib.Core.Path.{_≡_, refl, sym, ap, _∙_}
-use mathlib.Core.List.{List, [], _∷_, append-nil}
+use mathlib.Core.List.{List, []}
 use Prim.Native.Nat.{ℕ, _-_, _/_, _≤_, _<_}
 use native.Mathlib.Omega.{arith}
 use borrow.Author.Tests.{ltb-false, eqb-true, eq-eqb, not-false}
@@ -14,9 +14,9 @@ use Rattle.octets.proofs.LawsTests.{by-test, chosen, impossible}
 use Rattle.frame.specs.Fcs.{fcs}
 use Rattle.hdlc.specs.declared.reader.Fate.{Fate}
 use Rattle.hdlc.specs.declared.reader.Fate.the-variants.{Unfinished, Checked, Short, WrongCheck, TooLong, CutEscape, BadHeader}
-use Rattle.hdlc.specs.Fate.{Fated, checked, unchecked, decided, given, fated}
+use Rattle.hdlc.specs.Fate.{Fated, checked, unchecked, decided, fated}
 use Rattle.hdlc.specs.Reader.{maxGathered, bodyOf, checkOf, headed, frameFate}
-use Rattle.hdlc.specs.Wire.{gathered, contentFate, pieceFate, CheckedPiece, checkedOf}
+use Rattle.hdlc.specs.Wire.{gathered, contentFate, pieceFate, CheckedPiece}
 
 -- ---- gathered octets
 
@@ -98,9 +98,3 @@ pub undecided-empty : (p : List ℕ) → decided (pieceFate p) ≡ false → gat
 undecided-empty p =
     by-piece (λ f. decided f ≡ false → gathered p ≡ []) p (λ e. impossible cc) (λ e. impossible cc) (λ g _. g) (λ e. impossible cc)
     (λ e. impossible cc) (λ e. impossible cc) (λ _ e. impossible cc)
-
--- the checked body of one fate, if it is 1
-pub checked-given : (f : Fated) → checkedOf (given f) ≡ cond (eqb (f .number) 1) (f .body ∷ []) []
-unfolding checkedOf given
-checked-given f =
-    by-test (eqb (f .number) 0) (λ t. rw (t, ap (λ n. eqb n 1) (eqb-true _ _ t))) (λ t. rw t (append-nil _))

@@ -1,31 +1,15 @@
--- Laws of reading: what a fate's tag tells, and a call's outcome octet by octet, as the code's loop goes.
-use types.Run.{OneOf, miss}
-use denote.Enum.Declared.{tagOf}
+-- Laws of reading: a call's outcome octet by octet, as the code's loop goes.
 use mathlib.Core.Bool.{true, false}
-use mathlib.Core.Path.{_≡_, refl, sym, ap, _∙_}
+use mathlib.Core.Path.{_≡_, sym, ap, _∙_}
 use mathlib.Core.List.{List, [], _∷_}
 use Prim.Native.Nat.{ℕ, _+_, _<_, _≤_}
 use native.Mathlib.Nat.{zero-add, add-zero, add-assoc}
 use native.Mathlib.Omega.{arith}
-use lib.Dec.{eqb}
 use lib.ListN.{length, getD, drop, drop-of-length-le}
 use Rattle.octets.proofs.LawsLists.{drop-next}
 use Rattle.octets.proofs.LawsTests.{chosen}
-use Rattle.hdlc.specs.declared.reader.Fate.{Fate}
-use Rattle.hdlc.specs.declared.reader.Fate.the-variants.{Unfinished, Checked, Short, WrongCheck, TooLong, CutEscape, BadHeader}
-use Rattle.hdlc.specs.Fate.{Fated, unchecked, decided, fateNumber, bodyIn, Read, later}
+use Rattle.hdlc.specs.Fate.{Fated, unchecked, decided, Read, later}
 use Rattle.hdlc.specs.Reader.{Assembling, afterOctet, fateAt, run}
-use Rattle.hdlc.proofs.reader.Fate.{the-type as fate-type}
-
--- the `else` of an `if let` tells that the tag is one of the others: a fate that is not 1 has no body
-pub tag-unchecked : (f : Fate) (a : List ℕ) → OneOf (0 ∷ 2 ∷ 3 ∷ 4 ∷ 5 ∷ 6 ∷ []) (tagOf fate-type f) → (eqb (fateNumber f) 1 ≡ false) × (bodyIn f a ≡ [])
-tag-unchecked Unfinished a o = (refl, refl)
-tag-unchecked (Checked n) a o = absurd (miss (0 ∷ 2 ∷ 3 ∷ 4 ∷ 5 ∷ 6 ∷ []) 1 tt o)
-tag-unchecked Short a o = (refl, refl)
-tag-unchecked WrongCheck a o = (refl, refl)
-tag-unchecked TooLong a o = (refl, refl)
-tag-unchecked CutEscape a o = (refl, refl)
-tag-unchecked BadHeader a o = (refl, refl)
 
 pub later-zero : {S : Type 0} (o : Read S) → later 0 o ≡ o
 later-zero o = λ i. record { fate = o .fate; read = zero-add (o .read) i; state = o .state }

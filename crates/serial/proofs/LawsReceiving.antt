@@ -18,7 +18,7 @@ use Rattle.hdlc.specs.Fate.{given}
 use Rattle.hdlc.specs.Reader.{assembling, Outcome}
 use Rattle.hdlc.specs.Rules.{rules as readerRules}
 use Rattle.hdlc.specs.Wire.{checkedOf}
-use Rattle.hdlc.proofs.LawsFates.{checked-given}
+use Rattle.hdlc.proofs.CheckedBodies.{checked-given}
 use Rattle.device.specs.State.{maxReply}
 use Rattle.device.specs.declared.state.Device.{Device}
 use Rattle.device.specs.Rules.{rules}

@@ -4,16 +4,13 @@ use mathlib.Core.Logic.{_≢_}
 use mathlib.Core.Path.{_≡_, refl, ap, _∙_}
 use mathlib.Core.Bool.{true, false}
 use mathlib.Core.List.{List, [], _∷_}
-use Prim.Native.Nat.{ℕ, _/_, _%_, _≤_, _<_}
+use Prim.Native.Nat.{ℕ, _%_, _<_}
 use native.Mathlib.Omega.{arith}
-use borrow.Author.Tests.{ltb-true, ltb-false, eqb-true}
-use lib.Dec.{eqb, ltb}
 use lib.ListN.{length, List·getD-eq-default}
-use Rattle.octets.specs.Body.{minBody, maxBody, headerOf, SpinelBody}
+use Rattle.octets.specs.Body.{headerOf, SpinelBody}
 use Rattle.octets.proofs.LawsTests.{by-test, impossible}
 use Rattle.transactions.specs.Answer.{allowed, gave-up, answered, late, announced, stray}
-use Rattle.transactions.specs.Kind.{kind}
-use Rattle.transactions.specs.Table.{Mark, free, waiting, given-up, both, Numbers, fresh, markAt, put, isWaiting, Rules, rules, Result, done, refused, byMark, byKind, afterOpen, afterReset, afterGiveUp, afterReply}
+use Rattle.transactions.specs.Table.{Mark, free, waiting, given-up, both, Numbers, fresh, markAt, put, isWaiting, Rules, rules, done, refused, byMark, byKind, afterOpen, afterReset, afterGiveUp, afterReply}
 use Rattle.transactions.proofs.LawsTable.{rules-told}
 use Rattle.transactions.proofs.LawsKind.{announces, spinel-reply, other-kind}
 use Rattle.transactions.proofs.LawsCalls.{open-11, reset-11, give-up-11, reply-11, open-33, reset-33, reset-done, give-up-32, give-up-done, reply-by}

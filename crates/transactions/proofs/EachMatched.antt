@@ -1,11 +1,11 @@
 -- PROMISE: each reply is matched. In every run, where the oldest body on its way to the host replies to a question and is a Spinel body, its
 -- arrival matches it to that question. So a table that takes every reply for stray will not do.
-use mathlib.Core.Path.{_≡_, refl, ap, _∙_}
+use mathlib.Core.Path.{_≡_, ap, _∙_}
 use mathlib.Core.Bool.{true}
 use mathlib.Core.List.{List, [], _∷_}
 use Prim.Native.Nat.{ℕ, _≤_}
 use Rattle.octets.specs.Body.{SpinelBody}
-use Rattle.transactions.specs.Table.{Result, rules, markAt, free, afterReply}
+use Rattle.transactions.specs.Table.{rules, afterReply}
 use Rattle.transactions.specs.Writing.{header}
 use Rattle.transactions.specs.Exchange.{command, Response, reply, bodyOf, Exchange, Match, Event, deliver, inFlight, matchedTo, matching, delivering, step, run}
 use Rattle.transactions.proofs.LawsKind.{header-number, no-announcement, spinel-reply}

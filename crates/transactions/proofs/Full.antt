@@ -1,12 +1,12 @@
 -- PROMISE: opening is refused with 31 exactly where none of 1 to 15 is free, on a table that keeps its rules with no reset under way.
 use mathlib.Core.Logic.{_≢_}
-use mathlib.Core.Path.{_≡_, sym}
-use mathlib.Core.Bool.{true, false}
-use Prim.Native.Nat.{ℕ, _≤_, _<_}
+use mathlib.Core.Path.{_≡_}
+use mathlib.Core.Bool.{false}
+use Prim.Native.Nat.{ℕ, _≤_}
 use native.Mathlib.Omega.{arith}
 use borrow.Author.Tests.{ltb-true, ltb-false}
 use lib.Dec.{ltb}
-use Rattle.octets.proofs.LawsTests.{by-test, impossible}
+use Rattle.octets.proofs.LawsTests.{by-test}
 use Rattle.transactions.specs.Table.{free, Numbers, markAt, Rules, rules, lowest, refused, afterOpen}
 use Rattle.transactions.proofs.LawsTable.{lowest-free, rules-told}
 use Rattle.transactions.proofs.LawsCalls.{open-11, open-31, open-cases}

@@ -1,9 +1,9 @@
 -- Every event leaves the table, the host's notes and the cable in agreement.
-use mathlib.Core.Logic.{_≢_, ⊎-elim}
-use mathlib.Core.Path.{_≡_, refl, sym, ap, subst, _∙_}
-use mathlib.Core.Bool.{Bool, true, false, cond, not, _&&_}
+use mathlib.Core.Logic.{⊎-elim}
+use mathlib.Core.Path.{_≡_, refl, sym, ap, _∙_}
+use mathlib.Core.Bool.{true, false, cond, not, _&&_}
 use mathlib.Core.List.{List, [], _∷_, _++_, foldl}
-use Prim.Native.Nat.{ℕ, _%_, _/_, _≤_, _<_}
+use Prim.Native.Nat.{ℕ, _≤_, _<_}
 use native.Mathlib.Omega.{arith}
 use borrow.Author.Tests.{eqb-true, lt-ltb, ltb-true, not-true}
 use lib.Dec.{eqb, ltb}
@@ -13,9 +13,9 @@ use Rattle.transactions.specs.declared.kind.BodyKind.{BodyKind}
 use Rattle.transactions.specs.declared.kind.BodyKind.the-variants.{Announcement, Reply, Other}
 use Rattle.transactions.specs.Answer.{answered, late, stray}
 use Rattle.transactions.specs.Kind.{announcement, kind}
-use Rattle.transactions.specs.Table.{free, waiting, given-up, Numbers, fresh, markAt, put, rules, lowest, Result, done, byKind, afterOpen, afterReset, afterGiveUp, afterReply}
+use Rattle.transactions.specs.Table.{free, waiting, given-up, fresh, put, rules, lowest, Result, done, byKind, afterOpen, afterReset, afterGiveUp, afterReply}
 use Rattle.transactions.specs.Writing.{header}
-use Rattle.transactions.specs.Exchange.{Request, command, reset, octetsOf, isReset, Response, reply, unsolicited, bodyOf, questionOf, answersTo, isQuiet, Match, Exchange, start, inFlight, handedOut, matchedTo, isAllowed, maySend, noted, asking, matching, withTable, withCable, answering, dropping, delivering, Event, ask, give-up, ask-leave, send-reset, answer, drop-request, volunteer, deliver, step, run}
+use Rattle.transactions.specs.Exchange.{Request, command, reset, octetsOf, isReset, Response, reply, unsolicited, bodyOf, isQuiet, Match, Exchange, start, inFlight, handedOut, matchedTo, isAllowed, maySend, asking, matching, withTable, withCable, answering, dropping, delivering, Event, ask, give-up, ask-leave, send-reset, answer, drop-request, volunteer, deliver, step, run}
 use Rattle.transactions.proofs.LawsTable.{lowest-free}
 use Rattle.transactions.proofs.LawsKind.{announces, header-link, reply-or-other}
 use Rattle.transactions.proofs.LawsCalls.{reply-by, open-cases, reset-cases, give-up-cases, mark-cases}

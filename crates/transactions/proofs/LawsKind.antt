@@ -1,18 +1,16 @@
 -- What a body is to the table, by its octets.
 use mathlib.Core.Logic.{_≢_, _⊎_, inl, inr}
-use mathlib.Core.Path.{_≡_, refl, sym, ap, subst, _∙_}
-use mathlib.Core.Bool.{true, false, cond}
+use mathlib.Core.Path.{_≡_, refl, sym, ap, subst}
 use mathlib.Core.List.{List, _∷_}
 use Prim.Native.Nat.{ℕ, _/_, _%_, _<_}
 use native.Mathlib.Omega.{arith}
 use borrow.Author.Tests.{le-ltb, eq-eqb, ltb-false, eqb-true}
 use lib.Dec.{eqb, ltb}
-use lib.ListN.{length, getD}
+use lib.ListN.{length}
 use Rattle.octets.specs.Body.{minBody, maxBody, headerOf, SpinelBody}
 use Rattle.octets.specs.Comparing.{isSame}
 use Rattle.octets.proofs.LawsTests.{by-test, impossible}
 use Rattle.octets.proofs.LawsComparing.{same-equal, same-self}
-use Rattle.transactions.specs.declared.kind.BodyKind.{BodyKind}
 use Rattle.transactions.specs.declared.kind.BodyKind.the-variants.{Announcement, Reply, Other}
 use Rattle.transactions.specs.Kind.{announcement, kind}
 use Rattle.transactions.specs.Writing.{header}

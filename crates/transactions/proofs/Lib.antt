@@ -13,3 +13,4 @@ pub mod Lowest
 pub mod Full
 pub mod ToldByNumbers
 pub mod Answers
+pub mod LawsReceiving

@@ -1,8 +1,8 @@
 -- PROMISE: the number handed out is the lowest free one. On a table that keeps its rules, with no reset under way: where a number of 1 to 15 is
 -- free and each lower one from 1 on is not, opening hands it out and marks it as waiting. Whatever number is handed out is so.
 use mathlib.Core.Logic.{_≢_}
-use mathlib.Core.Path.{_≡_, sym, ap, subst, _∙_}
-use mathlib.Core.Bool.{true, false}
+use mathlib.Core.Path.{_≡_, ap, _∙_}
+use mathlib.Core.Bool.{false}
 use mathlib.Core.List.{List, [], _∷_}
 use Prim.Native.Nat.{ℕ, zero, suc, _≤_, _<_}
 use native.Mathlib.Omega.{arith}
@@ -11,7 +11,7 @@ use lib.Dec.{ltb}
 use lib.ListN.{getD, drop}
 use Rattle.octets.proofs.LawsTests.{by-test, impossible}
 use Rattle.transactions.specs.Answer.{opened}
-use Rattle.transactions.specs.Table.{Mark, free, waiting, given-up, both, Numbers, markAt, put, Rules, rules, firstFree, lowest, Result, done, refused, afterOpen}
+use Rattle.transactions.specs.Table.{Mark, free, waiting, given-up, both, Numbers, markAt, put, Rules, rules, firstFree, lowest, Result, done, afterOpen}
 use Rattle.transactions.proofs.LawsTable.{lowest-free}
 use Rattle.transactions.proofs.LawsCalls.{open-done, open-cases}
 use Rattle.transactions.proofs.TableRules.{rules-hold, lowest-above}

@@ -1,6 +1,6 @@
 -- PROMISE: when an announcement arrives, nothing that was asked before is in flight, and all numbers are free after it. In every run, where the
 -- oldest body on its way to the host is 80 06 00 72, no request is on its way to the box, and no reply to one is on its way back behind it.
-use mathlib.Core.Path.{_≡_, refl, sym, ap, _∙_}
+use mathlib.Core.Path.{_≡_, sym, ap, _∙_}
 use mathlib.Core.Bool.{true}
 use mathlib.Core.List.{List, [], _∷_}
 use Prim.Native.Nat.{ℕ, _≤_}

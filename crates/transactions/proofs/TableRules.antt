@@ -1,19 +1,19 @@
 -- PROMISE: the table's rules are decided by their test and kept by every call.
 use mathlib.Core.Path.{_≡_, refl, sym, _∙_}
 use mathlib.Core.Logic.{_≢_}
-use mathlib.Core.Bool.{true, false, cond}
+use mathlib.Core.Bool.{true, false}
 use mathlib.Core.List.{List, [], _∷_}
 use Prim.Native.Nat.{ℕ, zero, suc, _<_}
 use native.Mathlib.Omega.{arith}
 use lib.ListN.{getD, set}
 use lib.Seq.{getD-set-other}
-use Rattle.octets.proofs.LawsTests.{by-test, impossible}
+use Rattle.octets.proofs.LawsTests.{impossible}
 use Rattle.transactions.specs.declared.kind.BodyKind.{BodyKind}
 use Rattle.transactions.specs.declared.kind.BodyKind.the-variants.{Announcement, Reply, Other}
 use Rattle.transactions.specs.Kind.{kind}
-use Rattle.transactions.specs.Table.{Mark, free, waiting, given-up, both, isFree, isBoth, anyBoth, Numbers, fresh, markAt, put, Rules, rules, lowest, byKind, afterOpen, afterReset, afterGiveUp, afterReply}
+use Rattle.transactions.specs.Table.{Mark, free, waiting, given-up, both, anyBoth, Numbers, fresh, markAt, put, Rules, rules, lowest, byKind, afterOpen, afterReset, afterGiveUp, afterReply}
 use Rattle.transactions.proofs.LawsTable.{rules-told as told}
-use Rattle.transactions.proofs.LawsCalls.{open-11, reset-11, give-up-11, reply-11, reply-by, open-cases, reset-cases, give-up-cases, mark-cases}
+use Rattle.transactions.proofs.LawsCalls.{reply-by, open-cases, reset-cases, give-up-cases, mark-cases}
 
 -- ---- the test decides the rules
 

@@ -8,7 +8,7 @@ use lib.ListN.{getD}
 use Rattle.octets.specs.Body.{headerOf}
 use Rattle.transactions.specs.declared.kind.BodyKind.{BodyKind}
 use Rattle.transactions.specs.declared.kind.BodyKind.the-variants.{Announcement, Reply, Other}
-use Rattle.transactions.specs.Answer.{Word, opened, allowed, gave-up, answered, late, announced, stray, refused, Report}
+use Rattle.transactions.specs.Answer.{Word, opened, allowed, gave-up, answered, late, announced, stray, refused}
 use Rattle.transactions.specs.Kind.{announcement, kind}
 use Rattle.transactions.specs.Table.{Numbers, fresh, afterOpen, afterReset, afterGiveUp, afterReply}
 use Rattle.transactions.specs.Writing.{header, resetBody}

@@ -2,5 +2,6 @@ pub mod Answer
 pub mod NumberSet
 pub mod Kind
 pub mod Table
+pub mod Receiving
 pub mod Writing
 pub mod Exchange

@@ -2,9 +2,13 @@
 mod answer;
 mod kind;
 mod number_set;
+mod receiving;
 mod table;
 
 pub use answer::Answer;
 pub use answer::Refusal;
+pub use receiving::Heard;
+pub use receiving::Received;
+pub use receiving::receive;
 pub use table::Step;
 pub use table::Table;

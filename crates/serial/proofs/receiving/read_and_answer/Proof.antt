@@ -10,9 +10,8 @@ use Rattle.octets.specs.Body.{SpinelBody}
 use Rattle.octets.proofs.LawsWriting.{front-count, front-held}
 use Rattle.hdlc.specs.declared.reader.Fate.the-variants.{Checked}
 use Rattle.hdlc.specs.Reader.{assembling, outcome, run}
-use Rattle.hdlc.proofs.LawsReading.{tag-unchecked}
 use Rattle.hdlc.proofs.ReaderRules.{rules-told}
-use Rattle.hdlc.proofs.CheckedBodies.{checked-count}
+use Rattle.hdlc.proofs.CheckedBodies.{checked-count, tag-unchecked}
 use Rattle.engine.specs.Engine.{engine}
 use Rattle.engine.proofs.ReplyBounds.{reply-bounds}
 use Rattle.serial.specs.Receiving.{unrefused}

@@ -1,5 +1,4 @@
 -- The two tests are those of the rules, by the sets' bits.
-use mathlib.Core.Path.{_≡_, sym, ap}
 use Prim.Native.Nat.{ℕ, _%_}
 use native.Mathlib.Omega.{arith}
 use borrow.Author.Needs.{needs}

@@ -1,14 +1,13 @@
 -- Each way out has the tests that `afterOpen` makes; the number handed out is free, so that it gets the mark of one that waits.
 use mathlib.Core.Path.{_≡_, sym, ap, _∙_}
-use mathlib.Core.Bool.{true}
-use Prim.Native.Nat.{ℕ, _≤_, _<_}
+use Prim.Native.Nat.{ℕ}
 use borrow.Author.Needs.{needs}
 use borrow.Author.Tests.{not-true, not-false}
 use Rattle.transactions.specs.declared.table.Table.{Table}
 use lib.ListN.{set}
 use Rattle.transactions.specs.Answer.{opened}
 use Rattle.transactions.specs.NumberSet.{digits}
-use Rattle.transactions.specs.Table.{Result, numbersOf, markAt, waiting, put, done, refused, rules, lowest, afterOpen}
+use Rattle.transactions.specs.Table.{numbersOf, markAt, waiting, put, done, refused, lowest, afterOpen}
 use Rattle.transactions.proofs.LawsTable.{table, numbers-put, gave-kept, lowest-free, free-gave, resetting-is}
 use Rattle.transactions.proofs.LawsCalls.{open-11, open-33, open-31, open-done}
 use Rattle.transactions.proofs.table.Table.open.Statement.{statement}
