@@ -14,3 +14,4 @@ pub mod Full
 pub mod ToldByNumbers
 pub mod Answers
 pub mod LawsReceiving
+pub mod HeardInOrder
