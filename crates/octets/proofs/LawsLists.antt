@@ -1,6 +1,6 @@
 -- Laws of lists that the code's places and parts ask for.
 use mathlib.Core.Path.{_≡_, refl, ap}
-use mathlib.Core.List.{List, [], _∷_}
+use mathlib.Core.List.{List, [], _∷_, _++_}
 use Prim.Native.Nat.{ℕ, zero, suc, _+_, _-_, _<_}
 use native.Mathlib.Omega.{arith}
 use native.Mathlib.Numerals.{add-one}
@@ -35,3 +35,11 @@ octets-take zero xs o k = omega arith
 octets-take (suc n) [] o k = omega arith
 octets-take (suc n) (x ∷ xs) o zero = o zero
 octets-take (suc n) (x ∷ xs) o (suc k) = octets-take n xs (λ j. o (suc j)) k
+
+pub octets-more : (x : ℕ) (xs : List ℕ) → x < 256 → Octets xs → Octets (x ∷ xs)
+octets-more x xs h o zero = h
+octets-more x xs h o (suc k) = o k
+
+pub octets-append : (xs ys : List ℕ) → Octets xs → Octets ys → Octets (xs ++ ys)
+octets-append [] ys p q = q
+octets-append (x ∷ xs) ys p q = octets-more x (xs ++ ys) (p 0) (octets-append xs ys (λ k. p (suc k)) q)

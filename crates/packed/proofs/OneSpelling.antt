@@ -1,16 +1,16 @@
--- PROMISE: each number has one spelling. Whatever is read is what is written for the number read, goes on and stays within the list; the
--- answer depends on the at most three octets from the place; and a place at or past the end is unreadable.
+-- PROMISE: each number has one spelling. Whatever is read is what is written for the number read, goes on and stays within the list; an
+-- octet below 128 is a number by itself; the answer depends on the at most three octets from the place; and a place at or past the end is unreadable.
 use mathlib.Core.Path.{_≡_, sym, ap, _∙_}
 use mathlib.Core.List.{List, [], _∷_, _++_}
 use Prim.Native.Nat.{ℕ, zero, suc, _+_, _*_, _-_, _/_, _%_, _^_, _<_, _≤_}
 use native.Mathlib.Omega.{arith}
 use native.Mathlib.Nat.{add-zero, pow-succ', one-le-pow}
-use borrow.Author.Tests.{ltb-true, ltb-false, eqb-false}
+use borrow.Author.Tests.{ltb-true, ltb-false, lt-ltb, eqb-false}
 use lib.Dec.{eqb, ltb}
 use lib.ListN.{length, getD, take, drop, length-drop}
 use lib.Seq.{take-append-seam, getD-drop}
 use Rattle.octets.specs.Octets.{Octets}
-use Rattle.octets.proofs.LawsLists.{octets-drop}
+use Rattle.octets.proofs.LawsLists.{drop-next, octets-drop}
 use Rattle.octets.proofs.LawsTests.{by-test, impossible}
 use Rattle.packed.specs.Packed.{packed, packedIn, joined, numberIn, packedAt, maxPacked}
 use Rattle.packed.specs.declared.Packed.{Packed}
@@ -96,6 +96,11 @@ first-octet (suc k) at n next (x ∷ xs) e h =
 pub one-octet : (xs : List ℕ) (at n next : ℕ) → packedAt xs at ≡ Number n next → n < 128 → (getD xs at 0 ≡ n) × (next ≡ at + 1)
 unfolding packedAt
 one-octet xs at n next e h = rw (getD-drop at xs 0 0, add-zero at) at (first-octet 3 at n next (drop at xs) e h)
+
+-- and an octet below 128 is a number by itself
+pub octet-alone : (xs : List ℕ) (at : ℕ) → at < length xs → getD xs at 0 < 128 → packedAt xs at ≡ Number (getD xs at 0) (at + 1)
+unfolding packedAt numberIn
+octet-alone xs at h l = rw (drop-next xs at h, lt-ltb (getD xs at 0) 128 l)
 
 pub same-octets : (xs ys : List ℕ) (at : ℕ) → take 3 (drop at xs) ≡ take 3 (drop at ys) → packedAt xs at ≡ packedAt ys at
 unfolding packedAt

@@ -2,8 +2,8 @@
 -- 1,302 octets or more: lay the frames of any Spinel bodies end to end and cut them into any chunks; the calls that the chunks are offered to
 -- report what the table would report if it were told the bodies one after the other, and leave the table that this leaves.
 use mathlib.Core.Path.{_≡_, refl, sym, ap, ap₂, subst, _∙_}
-use mathlib.Core.Bool.{true, false, cond, not}
-use mathlib.Core.List.{List, [], _∷_, _++_, append-nil, foldl, foldl-append}
+use mathlib.Core.Bool.{true, cond, not}
+use mathlib.Core.List.{List, [], _∷_, _++_, foldl-append}
 use Prim.Native.Nat.{ℕ, zero, suc, _≤_}
 use native.Mathlib.Omega.{arith}
 use borrow.Author.Tests.{eqb-true}
@@ -13,7 +13,7 @@ use Rattle.octets.specs.Runs.{each}
 use Rattle.octets.proofs.LawsRuns.{each-append, emitted-append}
 use Rattle.octets.proofs.LawsTests.{by-test}
 use Rattle.frame.specs.Frame.{frame, stuffed}
-use Rattle.hdlc.specs.Fate.{Fated, given, decided}
+use Rattle.hdlc.specs.Fate.{given}
 use Rattle.hdlc.specs.Reader.{maxGathered, fresh, Assembling, assembling, Outcome, run}
 use Rattle.hdlc.specs.Rules.{rules as readerRules}
 use Rattle.hdlc.specs.Wire.{checkedOf, checkedIn, fatesOf, finished}
@@ -24,7 +24,6 @@ use Rattle.hdlc.proofs.ClosedForm.{same-room}
 use Rattle.hdlc.proofs.CheckedBodies.{checked-given}
 use Rattle.hdlc.proofs.AnyCuts.{any-chunks}
 use Rattle.hdlc.proofs.RoundTrip.{frame-then}
-use Rattle.transactions.specs.Answer.{Report}
 use Rattle.transactions.specs.Table.{Numbers, rules, afterReply}
 use Rattle.transactions.specs.Receiving.{Reception, unrefused}
 use Rattle.transactions.specs.Calls.{Host, host, gives, next, callsReport, callsLeave, offers, offered, chunked, bodiesReport, bodiesLeave, Spinels, none, more}

@@ -15,3 +15,8 @@ pub mod ToldByNumbers
 pub mod Answers
 pub mod LawsReceiving
 pub mod HeardInOrder
+pub mod LawsWriting
+pub mod WrittenCommands
+pub mod LawsMeets
+pub mod LawsInPlace
+pub mod LawsLent

@@ -2,10 +2,9 @@
 use mathlib.Core.Bool.{Bool, cond, not, _&&_}
 use mathlib.Core.List.{List, [], _∷_, _++_}
 use Prim.Native.Nat.{ℕ, _+_, _*_}
-use lib.Dec.{eqb, ltb}
+use lib.Dec.{eqb, ltb, leb}
 use lib.ListN.{length}
 use Rattle.octets.specs.Body.{maxBody}
-use Rattle.octets.specs.Ranges.{isBetween}
 use Rattle.packed.specs.Packed.{packed, maxPacked}
 use Rattle.frame.specs.Frame.{frame, Written, written, writing}
 use Rattle.transactions.specs.Table.{maxNumber}
@@ -24,10 +23,11 @@ commandBody link number command payload = header link number ∷ packed command 
 abbrev pub resetBody : List ℕ
 resetBody = 0x80 ∷ 0x01 ∷ []
 
--- links and transaction numbers that a header has room for, but 0, under which nothing is asked; a number that can be packed, but 1: "every
--- other command" goes under a number
+-- a link and a number that a header has room for, the number one that is handed out; a command that can be packed, and is not 1, RESET: "every
+-- other command" goes "under a number opened for it alone"
 unfoldable pub isCommand : ℕ → ℕ → ℕ → Bool
-isCommand link number command = ltb link 4 && isBetween 1 maxNumber number && ltb command (maxPacked + 1) && not (eqb command 1)
+isCommand link number command =
+    leb link 3 && leb 1 number && leb number maxNumber && leb command maxPacked && not (eqb command 1)
 
 -- ---- their frames
 
