@@ -1,11 +1,10 @@
 -- Laws of what the host writes.
-use mathlib.Core.Logic.{_≢_}
 use mathlib.Core.Path.{_≡_, ap, ap₂, _∙_}
 use mathlib.Core.Bool.{true, false, not, _&&_}
 use mathlib.Core.List.{List}
 use Prim.Native.Nat.{ℕ, _+_, _≤_, _<_}
 use native.Mathlib.Omega.{arith}
-use borrow.Author.Tests.{leb-true, eqb-false, not-true, lt-ltb, le-ltb}
+use borrow.Author.Tests.{le-leb, leb-true, ne-eqb, eqb-false, not-true, lt-ltb, le-ltb}
 use lib.Dec.{eqb, leb}
 use lib.ListN.{length, take, drop, length-append}
 use lib.Seq.{take-append-seam}
@@ -16,16 +15,9 @@ use Rattle.octets.proofs.LawsWriting.{front-count, front-held}
 use Rattle.packed.specs.Packed.{packed, maxPacked}
 use Rattle.frame.specs.Frame.{frame, written, writing}
 use Rattle.transactions.specs.Table.{maxNumber}
-use Rattle.transactions.specs.Writing.{commandBody, isCommand, nothing, writingFitting, writingCommand}
+use Rattle.transactions.specs.Writing.{commandBody, Command, isCommand, nothing, writingFitting, writingCommand}
 
 -- ---- what may be sent under a number
-
-pub record Command (l n c : ℕ) : Type 0 where
-  pub link : l ≤ 3
-  pub from-1 : 1 ≤ n
-  pub most : n ≤ 15
-  pub packs : c ≤ maxPacked
-  pub other : c ≢ 1
 
 pub command-told : (l n c : ℕ) → isCommand l n c ≡ true → Command l n c
 unfolding isCommand
@@ -40,6 +32,11 @@ command-told l n c e =
       packs = leb-true c maxPacked (and-r (leb l 3 && leb 1 n && leb n maxNumber) (leb c maxPacked) e₁);
       other = eqb-false c 1 (not-true (eqb c 1) (and-r (leb l 3 && leb 1 n && leb n maxNumber && leb c maxPacked) (not (eqb c 1)) e));
     }
+
+pub command-holds : (l n c : ℕ) → Command l n c → isCommand l n c ≡ true
+unfolding isCommand
+command-holds l n c k =
+    rw (le-leb l 3 (k .link), le-leb 1 n (k .from-1), le-leb n 15 (k .most), le-leb c maxPacked (k .packs), ne-eqb c 1 (k .other))
 
 -- ---- a frame that the writer wrote, from the front of a space
 
@@ -65,6 +62,10 @@ module _ (body out : List ℕ) where
   pub fits-not : length out < length (frame body) → writingFitting body out ≡ nothing out
   unfolding writingFitting
   fits-not h = rw (lt-ltb (length out) (length (frame body)) h)
+
+  pub fits-written : length (frame body) ≤ length out → writingFitting body out ≡ writing body out
+  unfolding writingFitting
+  fits-written h = rw (le-ltb (length out) (length (frame body)) h)
 
   pub fits : {count : ℕ} {out′ : List ℕ} → length (frame body) ≤ length out → Wrote out out′ 0 count (frame body) → written count out′ ≡ writingFitting body out
   unfolding writingFitting writing

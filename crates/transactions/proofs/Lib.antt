@@ -20,3 +20,4 @@ pub mod WrittenCommands
 pub mod LawsMeets
 pub mod LawsInPlace
 pub mod LawsLent
+pub mod WorkedRun

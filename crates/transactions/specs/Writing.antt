@@ -1,7 +1,8 @@
 -- What the host sends, and its frames (02, T-06).
 use mathlib.Core.Bool.{Bool, cond, not, _&&_}
 use mathlib.Core.List.{List, [], _∷_, _++_}
-use Prim.Native.Nat.{ℕ, _+_, _*_}
+use mathlib.Core.Logic.{_≢_}
+use Prim.Native.Nat.{ℕ, _+_, _*_, _≤_}
 use lib.Dec.{eqb, ltb, leb}
 use lib.ListN.{length}
 use Rattle.octets.specs.Body.{maxBody}
@@ -25,6 +26,14 @@ resetBody = 0x80 ∷ 0x01 ∷ []
 
 -- a link and a number that a header has room for, the number one that is handed out; a command that can be packed, and is not 1, RESET: "every
 -- other command" goes "under a number opened for it alone"
+pub record Command (l n c : ℕ) : Type 0 where
+  pub link : l ≤ 3
+  pub from-1 : 1 ≤ n
+  pub most : n ≤ 15
+  pub packs : c ≤ 2097151
+  pub other : c ≢ 1
+
+-- the test that decides it (proofs/WrittenCommands.antt)
 unfoldable pub isCommand : ℕ → ℕ → ℕ → Bool
 isCommand link number command =
     leb link 3 && leb 1 number && leb number maxNumber && leb command maxPacked && not (eqb command 1)

@@ -12,8 +12,8 @@ use Rattle.octets.specs.Writing.{Wrote}
 use Rattle.octets.proofs.LawsWriting.{wrote-both, front-count, front-held}
 use Rattle.packed.specs.Packed.{packed}
 use Rattle.packed.proofs.ReadsBack.{packed-size}
-use Rattle.transactions.specs.Writing.{header, commandBody, isCommand, writingFitting}
-use Rattle.transactions.proofs.LawsWriting.{Command, command-told, body-size, command-none, command-long, command-fitting}
+use Rattle.transactions.specs.Writing.{header, commandBody, Command, isCommand, writingFitting}
+use Rattle.transactions.proofs.LawsWriting.{command-told, body-size, command-none, command-long, command-fitting}
 use Rattle.transactions.proofs.writing.write_command.Statement.{statement}
 use Rattle.transactions.proofs.writing.write_command.Tie as tie
 
