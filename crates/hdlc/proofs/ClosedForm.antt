@@ -12,7 +12,7 @@ use Rattle.octets.proofs.LawsTests.{by-test}
 use Rattle.frame.specs.Frame.{stuffed}
 use Rattle.hdlc.specs.declared.reader.Reader.{Reader}
 use Rattle.hdlc.specs.Fate.{decided, later}
-use Rattle.hdlc.specs.Reader.{maxGathered, gathering, overlong, assembling, run}
+use Rattle.hdlc.specs.Reader.{maxGathered, fresh, gathering, overlong, assembling, run}
 use Rattle.hdlc.specs.Rules.{Rules}
 use Rattle.hdlc.specs.Wire.{gathered, cutEscape, pieceFateAt, grown, call}
 use Rattle.hdlc.specs.States.{over, holding, openPiece, closedForm}
@@ -74,6 +74,11 @@ overlong-open r a keeps room t =
 -- what is open in a reader leaves that reader
 pub open-holds : (r : Reader) (a : List ℕ) → Rules r → maxGathered ≤ length a → assembling r a ≡ holding (openPiece r a) a
 open-holds r a keeps room = by-test (r .discarding) (overlong-open r a keeps room) (gathering-open r a keeps room)
+
+-- and nothing is open in a fresh one
+pub fresh-open : (a : List ℕ) → openPiece fresh a ≡ []
+unfolding openPiece stuffed
+fresh-open a = refl
 
 pub closed-form : (r : Reader) (a xs : List ℕ) → Rules r → maxGathered ≤ length a → run (assembling r a) xs ≡ closedForm (call (openPiece r a) xs) a
 closed-form r a xs keeps room = ap (λ h. run h xs) (open-holds r a keeps room) ∙ call-closed xs (openPiece r a) a room

@@ -5,13 +5,12 @@ use mathlib.Core.Path.{_≡_, refl, ap, _∙_}
 use mathlib.Core.Bool.{true, false}
 use mathlib.Core.List.{List, [], _∷_}
 use Prim.Native.Nat.{ℕ, _%_, _<_}
-use native.Mathlib.Omega.{arith}
-use lib.ListN.{length, List·getD-eq-default}
 use Rattle.octets.specs.Body.{headerOf, SpinelBody}
 use Rattle.octets.proofs.LawsTests.{by-test, impossible}
+use Rattle.transactions.specs.declared.table.Table.{Table}
 use Rattle.transactions.specs.Answer.{allowed, gave-up, answered, late, announced, stray}
-use Rattle.transactions.specs.Table.{Mark, free, waiting, given-up, both, Numbers, fresh, markAt, put, isWaiting, Rules, rules, done, refused, byMark, byKind, afterOpen, afterReset, afterGiveUp, afterReply}
-use Rattle.transactions.proofs.LawsTable.{rules-told}
+use Rattle.transactions.specs.Table.{Mark, free, waiting, given-up, both, Numbers, numbersOf, fresh, markAt, put, isWaiting, Rules, rules, done, refused, byMark, byKind, afterOpen, afterReset, afterGiveUp, afterReply}
+use Rattle.transactions.proofs.LawsTable.{rules-told, mark-past}
 use Rattle.transactions.proofs.LawsKind.{announces, spinel-reply, other-kind}
 use Rattle.transactions.proofs.LawsCalls.{open-11, reset-11, give-up-11, reply-11, open-33, reset-33, reset-done, give-up-32, give-up-done, reply-by}
 use Rattle.transactions.proofs.TableRules.{rules-hold}
@@ -58,14 +57,9 @@ module _ (d : Numbers) (keeps : Rules d) where
       not-so given-up h = refl
       not-so both h = refl
 
-  -- 0 is never waiting, and no number past 15 is
+  -- 0 is never waiting; past 15 nothing is (ToldByNumbers, `past-15`)
   pub give-up-0 : afterGiveUp d 0 ≡ refused 32 d
   give-up-0 = give-up-other 0 (λ e. let z = keeps .zero in impossible cc)
-
-  pub give-up-past-15 : (n : ℕ) → length (d .marks) ≡ 16 → 15 < n → afterGiveUp d n ≡ refused 32 d
-  give-up-past-15 n size h =
-      let none : markAt d n ≡ free = List·getD-eq-default (d .marks) free (omega arith) in
-      give-up-other n (λ e. impossible cc)
 
   -- a body comes
   pub reply-announcement : afterReply d (0x80 ∷ 0x06 ∷ 0x00 ∷ 0x72 ∷ []) ≡ done announced 0 fresh
@@ -87,3 +81,8 @@ module _ (d : Numbers) (keeps : Rules d) where
 
       pub reply-free : markAt d (headerOf b % 16) ≡ free → afterReply d b ≡ done stray 0 d
       reply-free e = by-number e
+
+-- ---- of a table of the code, a number past 15
+
+pub give-up-past-15 : (t : Table) (n : ℕ) → Rules (numbersOf t) → 15 < n → afterGiveUp (numbersOf t) n ≡ refused 32 (numbersOf t)
+give-up-past-15 t n keeps h = give-up-other (numbersOf t) keeps n (λ e. let none = mark-past t n h in impossible cc)

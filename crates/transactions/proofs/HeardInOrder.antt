@@ -1,6 +1,7 @@
 -- PROMISE: the frames of bodies tell the table these bodies, in order. From a table that keeps its rules, a fresh reader and an assembly buffer of
 -- 1,302 octets or more: lay the frames of any Spinel bodies end to end and cut them into any chunks; the calls that the chunks are offered to
--- report what the table would report if it were told the bodies one after the other, and leave the table that this leaves.
+-- report what the table would report if it were told the bodies one after the other, and leave the table that this leaves. And whatever inputs
+-- calls have, noise among them, the table is told the checked bodies among them and nothing else.
 use mathlib.Core.Path.{_≡_, refl, sym, ap, ap₂, subst, _∙_}
 use mathlib.Core.Bool.{true, cond, not}
 use mathlib.Core.List.{List, [], _∷_, _++_, foldl-append}
@@ -12,15 +13,14 @@ use lib.ListN.{length, drop}
 use Rattle.octets.specs.Runs.{each}
 use Rattle.octets.proofs.LawsRuns.{each-append, emitted-append}
 use Rattle.octets.proofs.LawsTests.{by-test}
-use Rattle.frame.specs.Frame.{frame, stuffed}
+use Rattle.frame.specs.Frame.{frame}
 use Rattle.hdlc.specs.Fate.{given}
 use Rattle.hdlc.specs.Reader.{maxGathered, fresh, Assembling, assembling, Outcome, run}
 use Rattle.hdlc.specs.Rules.{rules as readerRules}
 use Rattle.hdlc.specs.Wire.{checkedOf, checkedIn, fatesOf, finished}
-use Rattle.hdlc.specs.States.{openPiece}
 use Rattle.hdlc.specs.Histories as wire
 use Rattle.hdlc.proofs.ReaderRules.{rules-told, rules-hold, fresh-rules, run-rules}
-use Rattle.hdlc.proofs.ClosedForm.{same-room}
+use Rattle.hdlc.proofs.ClosedForm.{fresh-open, same-room}
 use Rattle.hdlc.proofs.CheckedBodies.{checked-given}
 use Rattle.hdlc.proofs.AnyCuts.{any-chunks}
 use Rattle.hdlc.proofs.RoundTrip.{frame-then}
@@ -102,18 +102,18 @@ module _ (h : Host) (k : Ready h) (xs : List ℕ) where
 
 -- ---- calls one after the other
 
--- what calls with these inputs report and leave, and what the reader's calls tell and leave
-record All (h : Host) (xss : List (List ℕ)) : Type 0 where
-  ready : Ready (callsLeave h xss)
-  leaves : reading (callsLeave h xss) ≡ wire.callsLeave (reading h) xss
-  reports : callsReport h xss ≡ bodiesReport (h .numbers) (checkedOf (wire.callsTell (reading h) xss))
-  numbers : callsLeave h xss .numbers ≡ bodiesLeave (h .numbers) (checkedOf (wire.callsTell (reading h) xss))
+-- whatever the inputs, noise among them: the table is told the checked bodies that the reader's calls tell, and nothing else
+pub record HearsChecked (h : Host) (xss : List (List ℕ)) : Type 0 where
+  pub ready : Ready (callsLeave h xss)
+  pub leaves : reading (callsLeave h xss) ≡ wire.callsLeave (reading h) xss
+  pub reports : callsReport h xss ≡ bodiesReport (h .numbers) (checkedOf (wire.callsTell (reading h) xss))
+  pub numbers : callsLeave h xss .numbers ≡ bodiesLeave (h .numbers) (checkedOf (wire.callsTell (reading h) xss))
 
-all-calls : (xss : List (List ℕ)) (h : Host) → Ready h → All h xss
+pub hears-checked : (xss : List (List ℕ)) (h : Host) → Ready h → HearsChecked h xss
 unfolding callsLeave callsReport bodiesReport bodiesLeave checkedOf wire.callsTell wire.callsLeave
-all-calls [] h k = record { ready = k; leaves = refl; reports = refl; numbers = refl }
-all-calls (xs ∷ xss) h k =
-    let rest = all-calls xss (next h xs) (call-ready h k xs) in
+hears-checked [] h k = record { ready = k; leaves = refl; reports = refl; numbers = refl }
+hears-checked (xs ∷ xss) h k =
+    let rest = hears-checked xss (next h xs) (call-ready h k xs) in
     let here = bodiesIn (run (reading h) xs) in
     let fates = wire.callsTell (run (reading h) xs .state) xss in
     record {
@@ -149,7 +149,7 @@ unfolding chunked offered wire.chunked wire.offered
 same-chunked [] h k = refl
 same-chunked (xs ∷ xss) h k =
     let same = same-offers (suc (length xs)) h xs k in
-    let all = all-calls (offers (suc (length xs)) h xs) h k in
+    let all = hears-checked (offers (suc (length xs)) h xs) h k in
     ap₂ _++_ same
     (same-chunked xss (callsLeave h (offers (suc (length xs)) h xs)) (all .ready)
     ∙ ap (λ s. wire.chunked s xss) (all .leaves ∙ ap (wire.callsLeave (reading h)) same))
@@ -161,20 +161,20 @@ unfolding checkedIn checkedOf fatesOf finished
 frames-checked [] none = refl
 frames-checked (b ∷ bs) (more spinel octets rest) = frame-then b spinel octets (each frame bs) ∙ ap (λ l. b ∷ l) (frames-checked bs rest)
 
-pub record Heard (d : Numbers) (a : List ℕ) (bs xss : List (List ℕ)) : Type 0 where
+pub record HeardAll (d : Numbers) (a : List ℕ) (bs xss : List (List ℕ)) : Type 0 where
   pub reports : callsReport (host d fresh a) (chunked (host d fresh a) xss) ≡ bodiesReport d bs
   pub numbers : callsLeave (host d fresh a) (chunked (host d fresh a) xss) .numbers ≡ bodiesLeave d bs
 
 pub heard-in-order : (d : Numbers) (a : List ℕ) (bs xss : List (List ℕ)) → rules d ≡ true → maxGathered ≤ length a → Spinels bs
-    → each (λ xs. xs) xss ≡ each frame bs → Heard d a bs xss
-unfolding checkedIn openPiece stuffed
+    → each (λ xs. xs) xss ≡ each frame bs → HeardAll d a bs xss
+unfolding checkedIn
 heard-in-order d a bs xss kept room spinels laid =
     let h = host d fresh a in
     let k : Ready h = record { table = kept; reader = rules-hold fresh fresh-rules; room = room } in
-    let all = all-calls (chunked h xss) h k in
+    let all = hears-checked (chunked h xss) h k in
     let bodies : checkedOf (wire.callsTell (reading h) (chunked h xss)) ≡ bs =
     ap (λ l. checkedOf (wire.callsTell (reading h) l)) (same-chunked xss h k)
     ∙ ap checkedOf (any-chunks fresh a xss fresh-rules room .tells)
-    ∙ ap (checkedIn []) laid
+    ∙ ap₂ checkedIn (fresh-open a) laid
     ∙ frames-checked bs spinels in
     record { reports = all .reports ∙ ap (bodiesReport d) bodies; numbers = all .numbers ∙ ap (bodiesLeave d) bodies }

@@ -15,13 +15,13 @@ use Rattle.octets.proofs.LawsWriting.{front-count, front-held}
 use Rattle.packed.specs.Packed.{packed, maxPacked}
 use Rattle.frame.specs.Frame.{frame, written, writing}
 use Rattle.transactions.specs.Table.{maxNumber}
-use Rattle.transactions.specs.Writing.{commandBody, Command, isCommand, nothing, writingFitting, writingCommand}
+use Rattle.transactions.specs.Writing.{commandBody, Sendable, isSendable, nothing, writingFitting, writingCommand}
 
 -- ---- what may be sent under a number
 
-pub command-told : (l n c : ℕ) → isCommand l n c ≡ true → Command l n c
-unfolding isCommand
-command-told l n c e =
+pub sendable-told : (l n c : ℕ) → isSendable l n c ≡ true → Sendable l n c
+unfolding isSendable
+sendable-told l n c e =
     let e₁ = and-l _ (not (eqb c 1)) e in
     let e₂ = and-l _ (leb c maxPacked) e₁ in
     let e₃ = and-l _ (leb n maxNumber) e₂ in
@@ -33,9 +33,9 @@ command-told l n c e =
       other = eqb-false c 1 (not-true (eqb c 1) (and-r (leb l 3 && leb 1 n && leb n maxNumber && leb c maxPacked) (not (eqb c 1)) e));
     }
 
-pub command-holds : (l n c : ℕ) → Command l n c → isCommand l n c ≡ true
-unfolding isCommand
-command-holds l n c k =
+pub sendable-holds : (l n c : ℕ) → Sendable l n c → isSendable l n c ≡ true
+unfolding isSendable
+sendable-holds l n c k =
     rw (le-leb l 3 (k .link), le-leb 1 n (k .from-1), le-leb n 15 (k .most), le-leb c maxPacked (k .packs), ne-eqb c 1 (k .other))
 
 -- ---- a frame that the writer wrote, from the front of a space
@@ -77,11 +77,11 @@ pub body-size : (l n c : ℕ) (payload : List ℕ) → length (commandBody l n c
 body-size l n c payload = omega (arith, length-append (packed c) payload)
 
 module _ (l n c : ℕ) (payload out : List ℕ) where
-  pub command-none : isCommand l n c ≡ false → writingCommand l n c payload out ≡ nothing out
+  pub command-none : isSendable l n c ≡ false → writingCommand l n c payload out ≡ nothing out
   unfolding writingCommand
   command-none e = rw e
 
-  module _ (is : isCommand l n c ≡ true) where
+  module _ (is : isSendable l n c ≡ true) where
     pub command-long : maxBody < length (commandBody l n c payload) → writingCommand l n c payload out ≡ nothing out
     unfolding writingCommand
     command-long h = rw (is, lt-ltb maxBody (length (commandBody l n c payload)) h)

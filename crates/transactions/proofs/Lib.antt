@@ -21,3 +21,4 @@ pub mod LawsMeets
 pub mod LawsInPlace
 pub mod LawsLent
 pub mod WorkedRun
+pub mod HostReceives

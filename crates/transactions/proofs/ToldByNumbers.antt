@@ -4,14 +4,32 @@ use mathlib.Core.Path.{_≡_, refl, sym, ap, ap₂, _∙_}
 use mathlib.Core.List.{map, _∷_}
 use Prim.Native.Nat.{ℕ, zero, suc, _/_, _%_, _^_, _<_}
 use native.Mathlib.Omega.{arith}
+use Rattle.transactions.specs.declared.table.Step.{Step}
 use Rattle.transactions.specs.declared.table.Table.{Table}
 use Rattle.transactions.specs.NumberSet.{digits}
-use Rattle.transactions.specs.Table.{Mark, free, waiting, given-up, both, mark, marksOf, Numbers, numbersOf, markAt}
+use Rattle.transactions.specs.Table.{Mark, free, waiting, given-up, both, mark, marksOf, Numbers, numbersOf, markAt, resultOf, refused}
 use Rattle.transactions.proofs.LawsDigits.{digit-at, digits-same}
-use Rattle.transactions.proofs.LawsTable.{mark-at}
+use Rattle.transactions.proofs.LawsTable.{mark-at, mark-past}
 
 pub mark-by-bits : (t : Table) (n : ℕ) → n < 16 → markAt (numbersOf t) n ≡ mark (t .waiting / 2 ^ n % 2) (t .«given_up» / 2 ^ n % 2)
 mark-by-bits t n h = mark-at t n (sym (digit-at 16 (t .waiting) n h)) (sym (digit-at 16 (t .«given_up») n h))
+
+module _ (t : Table) (n : ℕ) (h : n < 16) where
+  pub bits-free : t .waiting / 2 ^ n % 2 ≡ 0 → t .«given_up» / 2 ^ n % 2 ≡ 0 → markAt (numbersOf t) n ≡ free
+  bits-free p q = mark-by-bits t n h ∙ ap₂ mark p q
+
+  pub bits-waiting : t .waiting / 2 ^ n % 2 ≡ 1 → t .«given_up» / 2 ^ n % 2 ≡ 0 → markAt (numbersOf t) n ≡ waiting
+  bits-waiting p q = mark-by-bits t n h ∙ ap₂ mark p q
+
+  pub bits-given-up : t .waiting / 2 ^ n % 2 ≡ 0 → t .«given_up» / 2 ^ n % 2 ≡ 1 → markAt (numbersOf t) n ≡ given-up
+  bits-given-up p q = mark-by-bits t n h ∙ ap₂ mark p q
+
+  pub bits-both : t .waiting / 2 ^ n % 2 ≡ 1 → t .«given_up» / 2 ^ n % 2 ≡ 1 → markAt (numbersOf t) n ≡ both
+  bits-both p q = mark-by-bits t n h ∙ ap₂ mark p q
+
+-- a number past 15 has no mark
+pub past-15 : (t : Table) (n : ℕ) → 15 < n → markAt (numbersOf t) n ≡ free
+past-15 t n h = mark-past t n h
 
 -- ---- the sets, back from the marks
 
@@ -66,3 +84,7 @@ told-by-numbers s t p q e =
     (sym (all-given-up 16 (s .waiting) (s .«given_up»)) ∙ ap (map givenUpIn) m ∙ all-given-up 16 (t .waiting) (t .«given_up»)) in
     let r : s .resetting ≡ t .resetting = ap (λ (d : Numbers). d .resetting) e in
     λ i. record { waiting = w i; «given_up» = g i; resetting = r i }
+
+-- so a refusal hands the very table back
+pub refused-same : (r : Step) (t : Table) (n : ℕ) → Fits (r .table) → Fits t → resultOf r ≡ refused n (numbersOf t) → r .table ≡ t
+refused-same r t n p q e = told-by-numbers (r .table) t p q (ap (λ z. z .numbers) e)

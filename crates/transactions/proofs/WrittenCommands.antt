@@ -10,6 +10,7 @@ use Prim.Native.Nat.{ℕ, _+_, _/_, _%_, _≤_, _<_}
 use native.Mathlib.Omega.{arith}
 use borrow.Author.Tests.{lt-ltb, ne-eqb}
 use lib.ListN.{length, getD, drop}
+use lib.Seq.{drop-append-seam}
 use Rattle.octets.specs.Body.{headerOf, SpinelBody}
 use Rattle.octets.specs.Octets.{Octets}
 use Rattle.octets.proofs.LawsTests.{by-test}
@@ -25,11 +26,11 @@ use Rattle.frame.specs.Fcs.{fcs, fcsFrom, fcsOctet, fcsBits, fcsBit}
 use Rattle.frame.specs.Frame.{frame, stuffed, withCheck, sent, written, writing}
 use Rattle.hdlc.specs.Wire.{checkedIn}
 use Rattle.hdlc.proofs.RoundTrip.{frame-checked}
-use Rattle.transactions.specs.Writing.{header, commandBody, resetBody, Command, isCommand, writingCommand, writingReset}
+use Rattle.transactions.specs.Writing.{header, commandBody, resetBody, Sendable, isSendable, writingCommand, writingReset}
 use Rattle.transactions.specs.Exchange.{isReset, maySend}
 use Rattle.transactions.proofs.LawsKind.{header-top, header-link, header-number}
 use Rattle.transactions.proofs.LawsExchange.{reset-is}
-use Rattle.transactions.proofs.LawsWriting.{command-told, command-holds, body-size, fits-not, fits-written, command-none, command-long, command-fitting}
+use Rattle.transactions.proofs.LawsWriting.{sendable-told, sendable-holds, body-size, fits-not, fits-written, command-none, command-long, command-fitting}
 
 abbrev numberIs : Packed → ℕ
 numberIs (Number n next) = n
@@ -38,26 +39,26 @@ numberIs Unreadable = 0
 -- ---- what is written, and where nothing is
 
 module _ (l n c : ℕ) (payload out : List ℕ) where
-  pub command-written : Command l n c → length (commandBody l n c payload) ≤ 1300 → length (frame (commandBody l n c payload)) ≤ length out
+  pub command-written : Sendable l n c → length (commandBody l n c payload) ≤ 1300 → length (frame (commandBody l n c payload)) ≤ length out
       → writingCommand l n c payload out ≡ writing (commandBody l n c payload) out
   command-written k most room =
-      command-fitting l n c payload out (command-holds l n c k) most ∙ fits-written (commandBody l n c payload) out room
+      command-fitting l n c payload out (sendable-holds l n c k) most ∙ fits-written (commandBody l n c payload) out room
 
-  pub command-refused : (Command l n c → ⊥) → writingCommand l n c payload out ≡ written 0 out
+  pub command-refused : (Sendable l n c → ⊥) → writingCommand l n c payload out ≡ written 0 out
   command-refused none =
-      command-none l n c payload out (by-test (isCommand l n c) (λ t. absurd (none (command-told l n c t))) (λ t. t))
+      command-none l n c payload out (by-test (isSendable l n c) (λ t. absurd (none (sendable-told l n c t))) (λ t. t))
 
-  pub command-too-long : Command l n c → 1300 < length (commandBody l n c payload) → writingCommand l n c payload out ≡ written 0 out
-  command-too-long k long = command-long l n c payload out (command-holds l n c k) long
+  pub command-too-long : Sendable l n c → 1300 < length (commandBody l n c payload) → writingCommand l n c payload out ≡ written 0 out
+  command-too-long k long = command-long l n c payload out (sendable-holds l n c k) long
 
-  pub command-no-room : Command l n c → length (commandBody l n c payload) ≤ 1300 → length out < length (frame (commandBody l n c payload))
+  pub command-no-room : Sendable l n c → length (commandBody l n c payload) ≤ 1300 → length out < length (frame (commandBody l n c payload))
       → writingCommand l n c payload out ≡ written 0 out
   command-no-room k most small =
-      command-fitting l n c payload out (command-holds l n c k) most ∙ fits-not (commandBody l n c payload) out small
+      command-fitting l n c payload out (sendable-holds l n c k) most ∙ fits-not (commandBody l n c payload) out small
 
 -- ---- a command's body
 
-module _ (l n c : ℕ) (payload : List ℕ) (fit : Command l n c) where
+module _ (l n c : ℕ) (payload : List ℕ) (fit : Sendable l n c) where
   abbrev body : List ℕ
   body = commandBody l n c payload
 
@@ -71,6 +72,11 @@ module _ (l n c : ℕ) (payload : List ℕ) (fit : Command l n c) where
 
   pub command-back : packedAt body 1 ≡ Number c (1 + length (packed c))
   command-back = reads-back (header l n ∷ []) payload c (fit .packs)
+
+  pub payload-behind : drop (1 + length (packed c)) body ≡ payload
+  payload-behind =
+      let next : 1 + length (packed c) ≡ length (header l n ∷ packed c) = omega arith in
+      ap (λ k. drop k body) next ∙ drop-append-seam (header l n ∷ packed c) payload
 
   pub written-spinel : length body ≤ 1300 → SpinelBody body
   written-spinel most = (omega (arith, body-size l n c payload, packed-size c .0), most, header-of .0)

@@ -8,7 +8,7 @@ use Rattle.transactions.specs.declared.answer.Answer.the-variants.{Opene
 pub data Word : Type 0 where
   opened allowed gave-up answered late announced stray refused : Word
 
--- the number of a refusal, else 0; what came of the call; and the transaction number that was handed out or replied to, else 0, which never is
+-- the number of a refusal, else 0; what came of the call; and the transaction number that was handed out or replied to, else 0
 pub record Report : Type 0 where
   pub number : ℕ
   pub word : Word

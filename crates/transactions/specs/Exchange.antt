@@ -115,26 +115,12 @@ isAllowed announced = false
 isAllowed stray = false
 isAllowed refused = false
 
--- under a number the host sends, on links 0 to 3, what is no reset
+-- under a number the host sends, on links 0 to 3, what is no reset; which number it is does not matter to that
 unfoldable pub maySend : ℕ → ℕ → List ℕ → Bool
 maySend links link rest = ltb link 4 && not (isReset links (header link 0 ∷ rest))
 
 abbrev pub noted : (ℕ → ℕ) → ℕ → ℕ → ℕ → ℕ
 noted notes n question m = cond (eqb m n) question (notes m)
-
--- a question is asked under the number that was handed out, if one was, with the table that is left
-unfoldable pub asking : Exchange → ℕ → List ℕ → Numbers → List ℕ → Exchange
-asking w link rest d [] = w
-asking w link rest d (n ∷ ns) =
-    record {
-      numbers = d;
-      notes = noted (w .notes) n (w .asked);
-      asked = suc (w .asked);
-      leave = w .leave;
-      requests = w .requests ++ (command link n (w .asked) rest ∷ []);
-      responses = w .responses;
-      matched = w .matched;
-    }
 
 unfoldable pub matching : Exchange → List ℕ → List ℕ → List Match
 matching w [] answers = w .matched
@@ -164,7 +150,21 @@ withCable w cs ss =
       matched = w .matched;
     }
 
--- the oldest request is answered, behind all that is on its way; or it is not
+-- a question is asked under the number that was handed out, if one was, with the table that is left
+unfoldable pub asking : Exchange → ℕ → List ℕ → Numbers → List ℕ → Exchange
+asking w link rest d [] = withTable w d (w .leave)
+asking w link rest d (n ∷ ns) =
+    record {
+      numbers = d;
+      notes = noted (w .notes) n (w .asked);
+      asked = suc (w .asked);
+      leave = w .leave;
+      requests = w .requests ++ (command link n (w .asked) rest ∷ []);
+      responses = w .responses;
+      matched = w .matched;
+    }
+
+-- the oldest request is answered, once, behind all that is on its way; or it is not
 unfoldable pub answering : Exchange → List ℕ → List Request → Exchange
 answering w rest [] = w
 answering w rest (c ∷ cs) = withCable w cs (w .responses ++ (reply c rest ∷ []))

@@ -3,7 +3,7 @@ use mathlib.Core.Bool.{Bool, cond, not, _&&_}
 use mathlib.Core.List.{List, [], _∷_}
 use Prim.Native.Nat.{ℕ}
 use lib.Dec.{eqb, ltb}
-use lib.ListN.{length}
+use lib.ListN.{length, take}
 use Rattle.hdlc.specs.declared.reader.Reader.{Reader}
 use Rattle.hdlc.specs.Fate.{fateNumber}
 use Rattle.hdlc.specs.Reader.{maxGathered, assembling, Outcome, run}
@@ -14,22 +14,30 @@ use Rattle.transactions.specs.declared.receiving.Received.{Received}
 use Rattle.transactions.specs.Answer.{Report, reported}
 use Rattle.transactions.specs.Table.{Numbers, numbersOf, rules, Result, afterReply}
 
--- 01's number of what a call tells, and what the table reported, where it was told a body
+-- 01's number of what a call tells; what the table reported, where it was told a body
 abbrev pub numberOf : Heard → ℕ
 numberOf (Read f) = fateNumber f
-numberOf (Body a) = 1
+numberOf (Body n a) = 1
 numberOf BadState = 11
 numberOf SmallAssembly = 12
 
 abbrev pub reportsIn : Heard → List Report
 reportsIn (Read f) = []
-reportsIn (Body a) = reported a ∷ []
+reportsIn (Body n a) = reported a ∷ []
 reportsIn BadState = []
 reportsIn SmallAssembly = []
+
+-- the body of a checked frame, from the front of the assembly buffer
+abbrev pub bodyIn : Heard → List ℕ → List ℕ
+bodyIn (Read f) a = []
+bodyIn (Body n x) a = take n a
+bodyIn BadState a = []
+bodyIn SmallAssembly a = []
 
 -- what a call returns, and every octet of the buffer that it was lent
 pub record Reception : Type 0 where
   pub number : ℕ
+  pub body : List ℕ
   pub reports : List Report
   pub read : ℕ
   pub numbers : Numbers
@@ -40,6 +48,7 @@ abbrev pub receptionOf : Received → List ℕ → Reception
 receptionOf r a =
     record {
       number = numberOf (r .heard);
+      body = bodyIn (r .heard) a;
       reports = reportsIn (r .heard);
       read = r .read;
       numbers = numbersOf (r .table);
@@ -49,13 +58,14 @@ receptionOf r a =
 
 -- 01, Octets on the wire: "Refusals .. read and write nothing, return zero for every count and hand the given state back"
 abbrev pub refused : ℕ → Numbers → Reader → List ℕ → Reception
-refused n d r a = record { number = n; reports = []; read = 0; numbers = d; reader = r; assembly = a }
+refused n d r a = record { number = n; body = []; reports = []; read = 0; numbers = d; reader = r; assembly = a }
 
 -- fate 1: the table is told the body
 abbrev pub told : Outcome → Result → Reception
 told o r =
     record {
       number = 1;
+      body = o .fate .body;
       reports = r .report ∷ [];
       read = o .read;
       numbers = r .numbers;
@@ -68,6 +78,7 @@ abbrev pub untold : Outcome → Numbers → Reception
 untold o d =
     record {
       number = o .fate .number;
+      body = [];
       reports = [];
       read = o .read;
       numbers = d;
@@ -82,7 +93,7 @@ unrefused d o = cond (eqb (o .fate .number) 1) (told o (afterReply d (o .fate .b
 unfoldable pub breaksRules : Numbers → Reader → Bool
 breaksRules d r = not (rules d && readerRules r)
 
--- "refusals in the order 11, 12"
+-- "refusals in the order 11, 12, 13"; nothing is written, so there is no 13
 unfoldable pub receive : Numbers → Reader → List ℕ → List ℕ → Reception
 receive d r input a =
     cond (breaksRules d r) (refused 11 d r a)

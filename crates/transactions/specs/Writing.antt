@@ -26,7 +26,7 @@ resetBody = 0x80 ∷ 0x01 ∷ []
 
 -- a link and a number that a header has room for, the number one that is handed out; a command that can be packed, and is not 1, RESET: "every
 -- other command" goes "under a number opened for it alone"
-pub record Command (l n c : ℕ) : Type 0 where
+pub record Sendable (l n c : ℕ) : Type 0 where
   pub link : l ≤ 3
   pub from-1 : 1 ≤ n
   pub most : n ≤ 15
@@ -34,8 +34,8 @@ pub record Command (l n c : ℕ) : Type 0 where
   pub other : c ≢ 1
 
 -- the test that decides it (proofs/WrittenCommands.antt)
-unfoldable pub isCommand : ℕ → ℕ → ℕ → Bool
-isCommand link number command =
+unfoldable pub isSendable : ℕ → ℕ → ℕ → Bool
+isSendable link number command =
     leb link 3 && leb 1 number && leb number maxNumber && leb command maxPacked && not (eqb command 1)
 
 -- ---- their frames
@@ -49,7 +49,7 @@ writingFitting body out = cond (ltb (length out) (length (frame body))) (nothing
 
 unfoldable pub writingCommand : ℕ → ℕ → ℕ → List ℕ → List ℕ → Written
 writingCommand link number command payload out =
-    cond (isCommand link number command)
+    cond (isSendable link number command)
     (cond (ltb maxBody (length (commandBody link number command payload))) (nothing out)
     (writingFitting (commandBody link number command payload) out))
     (nothing out)

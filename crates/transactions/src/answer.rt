@@ -15,13 +15,13 @@ pub enum Refusal {
 }
 
 pub enum Answer {
-    // A question may be asked under this number.
+    // Of `open`: a question may be asked under this number.
     Opened(u8),
-    // A reset may be sent.
+    // Of `reset`: a reset may be sent.
     Allowed,
-    // The number is given up. It is free again when its reply comes.
+    // Of `give_up`: the number is given up. It is free again when its reply comes.
     GivenUp,
-    // A reply to the question of this number, which is free again.
+    // Of `reply`, like all that follow: a reply to the question of this number, which is free again.
     Answered(u8),
     // A reply to a question that was given up. Its number is free again.
     Late(u8),
@@ -29,6 +29,7 @@ pub enum Answer {
     Announced,
     // A body that answers nothing.
     Stray,
+    // Of every call.
     Refused(Refusal),
 }
 

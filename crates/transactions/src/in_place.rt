@@ -1,4 +1,5 @@
-// The table kept in one place and changed where it stands, as a host's main loop keeps it. Each function is the method of its name.
+// The table kept in one place and changed where it stands, as a host's main loop keeps it. Each function is the method of its name. A table is
+// `Copy`: a host that cannot send what it opened a number for puts back the one that it had before.
 use crate::answer::Answer;
 use crate::table::Table;
 ghost use mathlib.Core.Path.{_≡_};

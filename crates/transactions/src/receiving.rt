@@ -12,8 +12,8 @@ ghost use Rattle.transactions.specs.Table.{numbersOf};
 pub enum Heard {
     // 0 and 2 to 6: no checked frame. The table is told nothing.
     Read(Fate),
-    // 1: a checked frame, and what the table answered to its body.
-    Body(Answer),
+    // 1: a checked frame. Its body has so many octets, from the front of the assembly buffer, and the table answered this to it.
+    Body(usize, Answer),
     // 11: the table or the reader breaks its own rules.
     BadState,
     // 12: the assembly buffer has under 1,302 octets.
@@ -27,7 +27,7 @@ impl Heard {
     {
         match self {
             Heard::Read(fate) => fate.number(),
-            Heard::Body(_) => 1,
+            Heard::Body(_, _) => 1,
             Heard::BadState => 11,
             Heard::SmallAssembly => 12,
         }
@@ -83,7 +83,7 @@ pub fn receive(table: Table, reader: Reader, input: &[u8], assembly: &mut [u8]) 
         let answer = step.answer;
         let changed = step.table;
         return Received {
-            heard: Heard::Body(answer),
+            heard: Heard::Body(len, answer),
             read: reading.read,
             table: changed,
             reader: next,

@@ -71,7 +71,7 @@ impl Table {
         }
     }
 
-    // A number for a question, which is to be sent at once.
+    // A number for a question, which is to be sent at once. A host that cannot send it keeps the table that it had before.
     pub fn open(self) -> Step
         ensures { λ r. ⌜ resultOf r ≡ afterOpen (numbersOf self) ⌝ }
     {
@@ -95,7 +95,7 @@ impl Table {
         }
     }
 
-    // Leave to send one reset.
+    // Leave to send one reset. A host that cannot send it keeps the table that it had before.
     pub fn reset(self) -> Step
         ensures { λ r. ⌜ resultOf r ≡ afterReset (numbersOf self) ⌝ }
     {

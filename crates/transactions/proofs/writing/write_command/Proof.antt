@@ -12,8 +12,8 @@ use Rattle.octets.specs.Writing.{Wrote}
 use Rattle.octets.proofs.LawsWriting.{wrote-both, front-count, front-held}
 use Rattle.packed.specs.Packed.{packed}
 use Rattle.packed.proofs.ReadsBack.{packed-size}
-use Rattle.transactions.specs.Writing.{header, commandBody, Command, isCommand, writingFitting}
-use Rattle.transactions.proofs.LawsWriting.{command-told, body-size, command-none, command-long, command-fitting}
+use Rattle.transactions.specs.Writing.{header, commandBody, Sendable, isSendable, writingFitting}
+use Rattle.transactions.proofs.LawsWriting.{sendable-told, body-size, command-none, command-long, command-fitting}
 use Rattle.transactions.proofs.writing.write_command.Statement.{statement}
 use Rattle.transactions.proofs.writing.write_command.Tie as tie
 
@@ -33,11 +33,11 @@ module _ (b : tie.Else1) where
   abbrev payload : List ℕ
   payload = start .args .payload .now
 
-  is : isCommand link number command ≡ true
-  is = sym (b .before .is-command .ensures) ∙ not-false _ (b .if1 .left)
+  is : isSendable link number command ≡ true
+  is = sym (b .before .is-sendable .ensures) ∙ not-false _ (b .if1 .left)
 
-  fit : Command link number command
-  fit = command-told link number command is
+  fit : Sendable link number command
+  fit = sendable-told link number command is
 
 abbrev space : List ℕ
 space = replicate 1300 0
@@ -86,7 +86,7 @@ write-command-spec =
     tie.close
     (tie.spec
     (λ c κs. search needs)
-    (λ c. sym (command-none _ _ _ _ _ (sym (c .before .is-command .ensures) ∙ not-true _ (c .if1 .taken))))
+    (λ c. sym (command-none _ _ _ _ _ (sym (c .before .is-sendable .ensures) ∙ not-true _ (c .if1 .taken))))
     (λ c. search needs)
     (λ c. omega (arith, fit (c .before) .link))
     (λ c. omega (arith, fit (c .before) .link))

@@ -1,12 +1,12 @@
--- Each way out has the tests that `isCommand` makes.
+-- Each way out has the tests that `isSendable` makes.
 use borrow.Author.Tests.{le-leb, lt-leb}
-use Rattle.transactions.specs.Writing.{isCommand}
-use Rattle.transactions.proofs.writing.is_command.Statement.{statement}
-use Rattle.transactions.proofs.writing.is_command.Tie as tie
+use Rattle.transactions.specs.Writing.{isSendable}
+use Rattle.transactions.proofs.writing.is_sendable.Statement.{statement}
+use Rattle.transactions.proofs.writing.is_sendable.Tie as tie
 
-pub is-command-spec : {M : Type 1} → statement M
-unfolding isCommand
-is-command-spec =
+pub is-sendable-spec : {M : Type 1} → statement M
+unfolding isSendable
+is-sendable-spec =
     tie.close
     (tie.spec
     (λ c. rw (lt-leb _ _ (c .if1 .taken)))

@@ -1,0 +1,4 @@
+pub mod Event
+pub mod Line
+pub mod Play
+pub mod Run
