@@ -1,7 +1,7 @@
 -- PROMISE: what a checked frame is. By the octets alone, a piece has fate 1 exactly when no escape is cut in it, the octets that it stands
 -- for are a body and that body's check, and the body has 2 to 1,300 octets and the top two header bits 10. So a call gives fate 1 for such
--- bodies only, and a body with no other fate. Octets in two parts have the checked bodies of the first, and then those of the second after the piece that the first leaves
--- open.
+-- bodies only, and a body with no other fate. Octets in two parts have the checked bodies of the first, and then those of the second after
+-- the piece that the first leaves open.
 use types.Run.{OneOf, miss}
 use denote.Enum.Declared.{tagOf}
 use mathlib.Core.Bool.{false, cond}

@@ -1,5 +1,6 @@
--- PROMISE: a line's event is told by its text alone, whatever its length: octet by octet it comes to what the text says at once, though only its
--- first 26 octets are kept, and the octets of a body stand in the lent space as if all behind `body ` had been read at once.
+-- PROMISE: a line's event is told by its text, whatever its length, and of a body longer than the lent space by the length of that space:
+-- octet by octet it comes to what the text says at once, though only its first 26 octets are kept, and the octets of a body stand in the
+-- lent space as if all behind `body ` had been read at once.
 use mathlib.Core.Bool.{Bool, false, cond, _&&_, and-false}
 use mathlib.Core.Path.{_≡_, refl, sym, ap, subst, _∙_}
 use mathlib.Core.List.{List, [], _∷_, _++_, append-nil, foldl, foldl-append}

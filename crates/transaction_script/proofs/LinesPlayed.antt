@@ -1,6 +1,6 @@
--- PROMISE: a line of the script is played by its text alone. Where no line has begun, the octets of a text without an end of line in it, and then
--- the end of the line, play the text's event: what is printed is what the event says on the table, the table is the one that it leaves, and the
--- next line finds none begun.
+-- PROMISE: a line of the script is played by its text. Where no line has begun, the octets of a text without an end of line in it, and then
+-- the end of the line, play the text's event: what is to be printed is what the event says on the table, the table is the one that it
+-- leaves, and the next line finds none begun.
 use mathlib.Core.Logic.{_≢_}
 use mathlib.Core.Path.{_≡_, refl, ap, _∙_}
 use mathlib.Core.List.{List, [], _∷_, _++_, foldl, foldl-append}

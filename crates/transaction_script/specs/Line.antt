@@ -72,8 +72,8 @@ eventAt l =
 
 -- ---- by its text alone
 
--- a line of spaces alone, or of nothing, and one that begins with `#` ask for nothing; what begins with `body ` is its octets in hex, by the reader of such
--- lines with a space of 1,301 octets
+-- a line of spaces alone, or of nothing, and one that begins with `#` ask for nothing; what begins with `body ` is its octets in hex, by the
+-- reader of such lines with a space of 1,301 octets
 unfoldable pub isBlank : List ℕ → Bool
 isBlank text = allBelow (length text) (λ i. eqb (getD text i 0) 0x20)
 

@@ -23,13 +23,14 @@ by-number : (links : ℕ) (w : Exchange) (l n q : ℕ) (r₀ rest : List ℕ) �
     matching w (matchedTo (r .report .word) (r .report .transaction)) (q ∷ []) ≡ answered-by q ∷ w .matched
 unfolding matching
 by-number links w l n q r₀ rest kept x spinel =
-    rw (reply-by (w .numbers) kept (header l n ∷ rest), spinel-reply (header l n ∷ rest) spinel (no-announcement l n rest (x .above)), header-number l n (x .below))
+    let body = header l n ∷ rest in
+    let ours = ap (λ k. record { question = k; answers = q ∷ [] } ∷ w .matched) (x .ours) in
+    rw (reply-by (w .numbers) kept body, spinel-reply body spinel (no-announcement l n rest (x .above)), header-number l n (x .below))
     (mark-cases (w .numbers) kept (λ r. matching w (matchedTo (r .report .word) (r .report .transaction)) (q ∷ []) ≡ answered-by q ∷ w .matched) n
-    (λ f. absurd (x .marked f)) (λ _. ap (λ k. record { question = k; answers = q ∷ [] } ∷ w .matched) (x .ours))
-    (λ _. ap (λ k. record { question = k; answers = q ∷ [] } ∷ w .matched) (x .ours)))
+    (λ f. absurd (x .marked f)) (λ _. ours) (λ _. ours))
 
-delivers : (links : ℕ) (w : Exchange) (l n q : ℕ) (r₀ rest : List ℕ) (ss : List Response) → Agrees links w → w .responses ≡ reply (command l n q r₀) rest ∷ ss
-    → SpinelBody (bodyOf links (reply (command l n q r₀) rest))
+delivers : (links : ℕ) (w : Exchange) (l n q : ℕ) (r₀ rest : List ℕ) (ss : List Response)
+    → Agrees links w → w .responses ≡ reply (command l n q r₀) rest ∷ ss → SpinelBody (bodyOf links (reply (command l n q r₀) rest))
     → delivering links w (reply (command l n q r₀) rest ∷ ss) .matched ≡ answered-by q ∷ w .matched
 unfolding delivering bodyOf inFlight Carried
 delivers links w l n q r₀ rest ss g e spinel =

@@ -1,7 +1,7 @@
--- PROMISE: the frames of bodies tell the table these bodies, in order. From a table that keeps its rules, a fresh reader and an assembly buffer of
--- 1,302 octets or more: lay the frames of any Spinel bodies end to end and cut them into any chunks; the calls that the chunks are offered to
--- report what the table would report if it were told the bodies one after the other, and leave the table that this leaves. And whatever inputs
--- calls have, noise among them, the table is told the checked bodies among them and nothing else.
+-- PROMISE: the frames of bodies tell the table these bodies, in order. From a table that keeps its rules, a fresh reader and an assembly
+-- buffer of 1,302 octets or more: lay the frames of any Spinel bodies end to end and cut them into any chunks; the calls that the chunks are
+-- offered to report what the table would report if it were told the bodies one after the other, and leave the table that this leaves. And
+-- whatever inputs calls have, noise among them, the table is told the checked bodies among them and nothing else.
 use mathlib.Core.Path.{_≡_, refl, sym, ap, ap₂, subst, _∙_}
 use mathlib.Core.Bool.{true, cond, not}
 use mathlib.Core.List.{List, [], _∷_, _++_, foldl-append}
@@ -77,8 +77,9 @@ module _ (h : Host) (k : Ready h) (xs : List ℕ) where
   call : Hears (h .numbers) (run (reading h) xs) (bodiesIn (run (reading h) xs)) (gives h xs)
   unfolding gives
   call =
-      subst (Hears (h .numbers) (run (reading h) xs) (bodiesIn (run (reading h) xs))) (sym (receive-run (h .numbers) (h .reader) xs (h .assembly) (rules-both (h .numbers) (h .reader) (k .table) (k .reader)) (k .room)))
-      (hears (h .numbers) (run (reading h) xs))
+      let kept = rules-both (h .numbers) (h .reader) (k .table) (k .reader) in
+      let is = receive-run (h .numbers) (h .reader) xs (h .assembly) kept (k .room) in
+      subst (Hears (h .numbers) (run (reading h) xs) (bodiesIn (run (reading h) xs))) (sym is) (hears (h .numbers) (run (reading h) xs))
 
   -- the next one finds all in order
   call-ready : Ready (next h xs)
@@ -86,7 +87,9 @@ module _ (h : Host) (k : Ready h) (xs : List ℕ) where
   call-ready =
       record {
         table = subst (λ d. rules d ≡ true) (sym (call .numbers)) (told-rules (h .numbers) (bodiesIn (run (reading h) xs)) (k .table));
-        reader = subst (λ s. readerRules (s .reader) ≡ true) (sym (call .state)) (run-rules (h .reader) (h .assembly) xs (rules-told (h .reader) (k .reader)) (k .room));
+        reader =
+            subst (λ s. readerRules (s .reader) ≡ true) (sym (call .state))
+            (run-rules (h .reader) (h .assembly) xs (rules-told (h .reader) (k .reader)) (k .room));
         room =
             subst (λ s. maxGathered ≤ length (s .assembly)) (sym (call .state))
             (omega (arith, k .room, same-room (h .reader) (h .assembly) xs (rules-told (h .reader) (k .reader)) (k .room)));
@@ -120,7 +123,8 @@ hears-checked (xs ∷ xss) h k =
       ready = rest .ready;
       leaves = rest .leaves ∙ ap (λ s. wire.callsLeave s xss) (call-leaves h k xs);
       reports =
-          ap₂ _++_ (call h k xs .reports) (rest .reports ∙ ap₂ (λ d s. bodiesReport d (checkedOf (wire.callsTell s xss))) (call-numbers h k xs) (call-leaves h k xs))
+          ap₂ _++_ (call h k xs .reports)
+          (rest .reports ∙ ap₂ (λ d s. bodiesReport d (checkedOf (wire.callsTell s xss))) (call-numbers h k xs) (call-leaves h k xs))
           ∙ sym (reports-append (h .numbers) here (checkedOf fates))
           ∙ ap (bodiesReport (h .numbers)) (sym (each-append _ (given (run (reading h) xs .fate)) fates));
       numbers =

@@ -15,7 +15,7 @@ use Rattle.transactions.specs.Answer.{answered, late, stray}
 use Rattle.transactions.specs.Kind.{announcement, kind}
 use Rattle.transactions.specs.Table.{free, waiting, given-up, fresh, put, rules, lowest, Result, done, byKind, afterOpen, afterReset, afterGiveUp, afterReply}
 use Rattle.transactions.specs.Writing.{header}
-use Rattle.transactions.specs.Exchange.{Request, command, reset, octetsOf, isReset, Response, reply, unsolicited, bodyOf, isQuiet, Match, Exchange, start, inFlight, handedOut, matchedTo, isAllowed, maySend, asking, matching, withTable, withCable, answering, dropping, delivering, Event, ask, give-up, ask-leave, send-reset, answer, drop-request, volunteer, deliver, step, run}
+use Rattle.transactions.specs.Exchange.{Request, command, reset, octetsOf, isReset, Response, reply, unsolicited, bodyOf, mayBeUnsolicited, Match, Exchange, start, inFlight, handedOut, matchedTo, isAllowed, maySend, asking, matching, withTable, withCable, answering, dropping, delivering, Event, ask, give-up, ask-leave, send-reset, answer, drop-request, send-unsolicited, deliver, step, run}
 use Rattle.transactions.proofs.LawsTable.{lowest-free}
 use Rattle.transactions.proofs.LawsKind.{announces, header-link, reply-or-other}
 use Rattle.transactions.proofs.LawsCalls.{reply-by, open-cases, reset-cases, give-up-cases, mark-cases}
@@ -23,22 +23,22 @@ use Rattle.transactions.proofs.TableRules.{rules-told, fresh-rules, put
 use Rattle.transactions.proofs.LawsFlight.{Absent, Asked, Carried, carried-ask, carried-give-up, carried-free, carried-allow, carried-reset, carried-none, flight-sent, flight-answered, flight-unsolicited, carried-dropped}
 
 -- what the box sends unasked is under number 0, and no announcement
-unfoldable pub Quiet : List Response → Type 0
-Quiet [] = Unit {0}
-Quiet (reply c rest ∷ ss) = Quiet ss
-Quiet (unsolicited b ∷ ss) = (isQuiet (kind b) ≡ true) × Quiet ss
+unfoldable pub Unasked : List Response → Type 0
+Unasked [] = Unit {0}
+Unasked (reply c rest ∷ ss) = Unasked ss
+Unasked (unsolicited b ∷ ss) = (mayBeUnsolicited (kind b) ≡ true) × Unasked ss
 
-quiet-answered : (ss : List Response) (c : Request) (rest : List ℕ) → Quiet ss → Quiet (ss ++ (reply c rest ∷ []))
-unfolding Quiet
-quiet-answered [] c rest q = tt
-quiet-answered (reply c′ rest′ ∷ ss) c rest q = quiet-answered ss c rest q
-quiet-answered (unsolicited b ∷ ss) c rest q = (q .0, quiet-answered ss c rest (q .1))
+unasked-answered : (ss : List Response) (c : Request) (rest : List ℕ) → Unasked ss → Unasked (ss ++ (reply c rest ∷ []))
+unfolding Unasked
+unasked-answered [] c rest q = tt
+unasked-answered (reply c′ rest′ ∷ ss) c rest q = unasked-answered ss c rest q
+unasked-answered (unsolicited b ∷ ss) c rest q = (q .0, unasked-answered ss c rest (q .1))
 
-quiet-unsolicited : (ss : List Response) (b : List ℕ) → isQuiet (kind b) ≡ true → Quiet ss → Quiet (ss ++ (unsolicited b ∷ []))
-unfolding Quiet
-quiet-unsolicited [] b e q = (e, tt)
-quiet-unsolicited (reply c rest ∷ ss) b e q = quiet-unsolicited ss b e q
-quiet-unsolicited (unsolicited b′ ∷ ss) b e q = (q .0, quiet-unsolicited ss b e (q .1))
+unasked-unsolicited : (ss : List Response) (b : List ℕ) → mayBeUnsolicited (kind b) ≡ true → Unasked ss → Unasked (ss ++ (unsolicited b ∷ []))
+unfolding Unasked
+unasked-unsolicited [] b e q = (e, tt)
+unasked-unsolicited (reply c rest ∷ ss) b e q = unasked-unsolicited ss b e q
+unasked-unsolicited (unsolicited b′ ∷ ss) b e q = (q .0, unasked-unsolicited ss b e (q .1))
 
 -- each match is right
 unfoldable pub Right : List Match → Type 0
@@ -50,12 +50,12 @@ pub record Agrees (links : ℕ) (w : Exchange) : Type 0 where
   pub size : length (w .numbers .marks) ≡ 16
   pub under-way : w .leave ≡ true → w .numbers .resetting ≡ true
   pub carried : Carried links (w .numbers) (w .notes) (w .leave) (inFlight (w .responses) (w .requests))
-  pub quiet : Quiet (w .responses)
+  pub unasked : Unasked (w .responses)
   pub right : Right (w .matched)
 
 agrees-start : (links : ℕ) → Agrees links start
-unfolding inFlight Carried Quiet Right
-agrees-start links = record { kept = fresh-rules; size = refl; under-way = λ e. impossible cc; carried = tt; quiet = tt; right = tt }
+unfolding inFlight Carried Unasked Right
+agrees-start links = record { kept = fresh-rules; size = refl; under-way = λ e. impossible cc; carried = tt; unasked = tt; right = tt }
 
 -- ---- the host
 
@@ -91,7 +91,7 @@ module _ (links : ℕ) (w : Exchange) (g : Agrees links w) where
             rw (flight-sent (w .responses) (w .requests) (command l n (w .asked) rest ∷ []))
             (carried-ask links d (w .notes) (w .leave) l n (w .asked) rest (inFlight (w .responses) (w .requests))
             (lowest-above d) (omega arith) (g .size) link (same-reset links l n rest link (omega arith) ∙ plain) idle (lowest-free d) (g .carried));
-        quiet = g .quiet;
+        unasked = g .unasked;
         right = g .right;
       })
 
@@ -103,7 +103,7 @@ module _ (links : ℕ) (w : Exchange) (g : Agrees links w) where
         size = length-set (w .numbers .marks) n given-up ∙ g .size;
         under-way = g .under-way;
         carried = carried-give-up links (w .numbers) (w .notes) (w .leave) n (inFlight (w .responses) (w .requests)) (g .size) (g .carried);
-        quiet = g .quiet;
+        unasked = g .unasked;
         right = g .right;
       })
 
@@ -115,7 +115,7 @@ module _ (links : ℕ) (w : Exchange) (g : Agrees links w) where
         size = g .size;
         under-way = λ _. refl;
         carried = carried-allow links (w .numbers) (w .notes) (w .leave) (inFlight (w .responses) (w .requests)) idle (g .carried);
-        quiet = g .quiet;
+        unasked = g .unasked;
         right = g .right;
       })
 
@@ -128,7 +128,7 @@ module _ (links : ℕ) (w : Exchange) (g : Agrees links w) where
         carried =
             rw (flight-sent (w .responses) (w .requests) (reset ∷ []))
             (carried-reset links (w .numbers) (w .notes) (inFlight (w .responses) (w .requests)) (g .under-way e) (rw e at (g .carried)));
-        quiet = g .quiet;
+        unasked = g .unasked;
         right = g .right;
       }
 
@@ -143,7 +143,7 @@ module _ (links : ℕ) (w : Exchange) (g : Agrees links w) where
         size = g .size;
         under-way = g .under-way;
         carried = rw (flight-answered (w .responses) c rest cs) (rw e at (g .carried));
-        quiet = quiet-answered (w .responses) c rest (g .quiet);
+        unasked = unasked-answered (w .responses) c rest (g .unasked);
         right = g .right;
       }
 
@@ -156,18 +156,18 @@ module _ (links : ℕ) (w : Exchange) (g : Agrees links w) where
         size = g .size;
         under-way = g .under-way;
         carried = carried-dropped links (w .numbers) (w .notes) (w .leave) (w .responses) c cs (rw e at (g .carried));
-        quiet = g .quiet;
+        unasked = g .unasked;
         right = g .right;
       }
 
-  agrees-volunteer : (b : List ℕ) → isQuiet (kind b) ≡ true → Agrees links (withCable w (w .requests) (w .responses ++ (unsolicited b ∷ [])))
-  agrees-volunteer b e =
+  agrees-unsolicited : (b : List ℕ) → mayBeUnsolicited (kind b) ≡ true → Agrees links (withCable w (w .requests) (w .responses ++ (unsolicited b ∷ [])))
+  agrees-unsolicited b e =
       record {
         kept = g .kept;
         size = g .size;
         under-way = g .under-way;
         carried = rw (flight-unsolicited (w .responses) b (w .requests)) (g .carried);
-        quiet = quiet-unsolicited (w .responses) b e (g .quiet);
+        unasked = unasked-unsolicited (w .responses) b e (g .unasked);
         right = g .right;
       }
 
@@ -186,17 +186,17 @@ module _ (links : ℕ) (w : Exchange) (g : Agrees links w) where
       }
 
   -- it changes nothing
-  agrees-stray : (ss : List Response) (answers : List ℕ) → Carried links (w .numbers) (w .notes) (w .leave) (inFlight ss (w .requests)) → Quiet ss
+  agrees-stray : (ss : List Response) (answers : List ℕ) → Carried links (w .numbers) (w .notes) (w .leave) (inFlight ss (w .requests)) → Unasked ss
       → Agrees links (arrived ss answers (done stray 0 (w .numbers)))
   unfolding matching
-  agrees-stray ss answers c q = record { kept = g .kept; size = g .size; under-way = g .under-way; carried = c; quiet = q; right = g .right }
+  agrees-stray ss answers c q = record { kept = g .kept; size = g .size; under-way = g .under-way; carried = c; unasked = q; right = g .right }
 
   -- it frees a number under which nothing else is in flight, and is matched to the question that it answers
   agrees-freed : (ss : List Response) (n q : ℕ) (r : Result) → 0 < n → w .notes n ≡ q → Absent n (inFlight ss (w .requests))
-      → Carried links (w .numbers) (w .notes) (w .leave) (inFlight ss (w .requests)) → Quiet ss
+      → Carried links (w .numbers) (w .notes) (w .leave) (inFlight ss (w .requests)) → Unasked ss
       → matchedTo (r .report .word) (r .report .transaction) ≡ n ∷ [] → r .numbers ≡ put (w .numbers) n free → Agrees links (arrived ss (q ∷ []) r)
   unfolding matching Right
-  agrees-freed ss n q r above ours absent c quiet is frees =
+  agrees-freed ss n q r above ours absent c unasked is frees =
       let d = w .numbers in
       rw (is, frees)
       (record {
@@ -204,12 +204,12 @@ module _ (links : ℕ) (w : Exchange) (g : Agrees links w) where
         size = length-set (d .marks) n free ∙ g .size;
         under-way = g .under-way;
         carried = carried-free links d (w .notes) (w .leave) n (inFlight ss (w .requests)) absent c;
-        quiet = quiet;
+        unasked = unasked;
         right = (ap (λ x. x ∷ []) (sym ours), g .right);
       })
 
   -- the announcement, behind which nothing is in flight
-  agrees-announced : (ss : List Response) (answers : List ℕ) → w .leave ≡ false → inFlight ss (w .requests) ≡ [] → Quiet ss
+  agrees-announced : (ss : List Response) (answers : List ℕ) → w .leave ≡ false → inFlight ss (w .requests) ≡ [] → Unasked ss
       → Agrees links (arrived ss answers (afterReply (w .numbers) announcement))
   unfolding matching
   agrees-announced ss answers no-leave none q =
@@ -219,42 +219,42 @@ module _ (links : ℕ) (w : Exchange) (g : Agrees links w) where
         size = refl;
         under-way = λ e. let z = sym no-leave ∙ e in impossible cc;
         carried = carried-none links fresh (w .notes) (w .leave) (inFlight ss (w .requests)) none;
-        quiet = q;
+        unasked = q;
         right = g .right;
       })
 
   -- what nobody asked for
-  by-quiet : (ss : List Response) (k : BodyKind) → isQuiet k ≡ true → Carried links (w .numbers) (w .notes) (w .leave) (inFlight ss (w .requests)) → Quiet ss
+  by-unasked : (ss : List Response) (k : BodyKind) → mayBeUnsolicited k ≡ true → Carried links (w .numbers) (w .notes) (w .leave) (inFlight ss (w .requests)) → Unasked ss
       → Agrees links (arrived ss [] (byKind k (w .numbers)))
-  by-quiet ss Announcement e c q = impossible cc
-  by-quiet ss (Reply n) e c q = rw (eqb-true n 0 e, rules-told (w .numbers) (g .kept) .zero) (agrees-stray ss [] c q)
-  by-quiet ss Other e c q = agrees-stray ss [] c q
+  by-unasked ss Announcement e c q = impossible cc
+  by-unasked ss (Reply n) e c q = rw (eqb-true n 0 e, rules-told (w .numbers) (g .kept) .zero) (agrees-stray ss [] c q)
+  by-unasked ss Other e c q = agrees-stray ss [] c q
 
   -- a reply to a question
   by-number : (ss : List Response) (l n q : ℕ) (r₀ rest : List ℕ) → Asked links (w .numbers) (w .notes) l n q r₀ → Absent n (inFlight ss (w .requests))
-      → Carried links (w .numbers) (w .notes) (w .leave) (inFlight ss (w .requests)) → Quiet ss
+      → Carried links (w .numbers) (w .notes) (w .leave) (inFlight ss (w .requests)) → Unasked ss
       → Agrees links (arrived ss (q ∷ []) (afterReply (w .numbers) (header l n ∷ rest)))
-  by-number ss l n q r₀ rest x absent c quiet =
+  by-number ss l n q r₀ rest x absent c unasked =
       rw (reply-by (w .numbers) (g .kept) (header l n ∷ rest))
-      (⊎-elim (λ k. rw k (agrees-stray ss (q ∷ []) c quiet))
+      (⊎-elim (λ k. rw k (agrees-stray ss (q ∷ []) c unasked))
       (λ k. rw k
       (mark-cases (w .numbers) (g .kept) (λ r. Agrees links (arrived ss (q ∷ []) r)) n (λ f. absurd (x .marked f))
-      (λ _. agrees-freed ss n q (done answered n (put (w .numbers) n free)) (x .above) (x .ours) absent c quiet refl refl)
-      (λ _. agrees-freed ss n q (done late n (put (w .numbers) n free)) (x .above) (x .ours) absent c quiet refl refl)))
+      (λ _. agrees-freed ss n q (done answered n (put (w .numbers) n free)) (x .above) (x .ours) absent c unasked refl refl)
+      (λ _. agrees-freed ss n q (done late n (put (w .numbers) n free)) (x .above) (x .ours) absent c unasked refl refl)))
       (reply-or-other l n rest (x .above) (x .below)))
 
   agrees-deliver : 1 ≤ links → (ss : List Response) → w .responses ≡ ss → Agrees links (delivering links w ss)
-  unfolding delivering bodyOf inFlight Carried Quiet
+  unfolding delivering bodyOf inFlight Carried Unasked
   agrees-deliver some [] e = g
   agrees-deliver some (reply (command l n q r₀) rest ∷ ss) e =
       let c = rw e at (g .carried) in
-      rw (c .0 .no-reset) (by-number ss l n q r₀ rest (c .0) (c .1) (c .2) (rw e at (g .quiet)))
+      rw (c .0 .no-reset) (by-number ss l n q r₀ rest (c .0) (c .1) (c .2) (rw e at (g .unasked)))
   agrees-deliver some (reply reset rest ∷ ss) e =
       let c = rw e at (g .carried) in
-      rw (reset-is links some) (agrees-announced ss [] (c .1) (c .2) (rw e at (g .quiet)))
+      rw (reset-is links some) (agrees-announced ss [] (c .1) (c .2) (rw e at (g .unasked)))
   agrees-deliver some (unsolicited b ∷ ss) e =
-      let q = rw e at (g .quiet) in
-      rw (reply-by (w .numbers) (g .kept) b) (by-quiet ss (kind b) (q .0) (rw e at (g .carried)) (q .1))
+      let q = rw e at (g .unasked) in
+      rw (reply-by (w .numbers) (g .kept) b) (by-unasked ss (kind b) (q .0) (rw e at (g .carried)) (q .1))
 
 -- ---- every event, and every run
 
@@ -268,7 +268,7 @@ agrees-step links some w ask-leave g = agrees-leave links w g
 agrees-step links some w send-reset g = chosen (Agrees links) (w .leave) (λ e. agrees-reset links w g e) (λ _. g)
 agrees-step links some w (answer rest) g = agrees-answer links w g rest (w .requests) refl
 agrees-step links some w drop-request g = agrees-drop links w g (w .requests) refl
-agrees-step links some w (volunteer b) g = chosen (Agrees links) (isQuiet (kind b)) (λ e. agrees-volunteer links w g b e) (λ _. g)
+agrees-step links some w (send-unsolicited b) g = chosen (Agrees links) (mayBeUnsolicited (kind b)) (λ e. agrees-unsolicited links w g b e) (λ _. g)
 agrees-step links some w deliver g = agrees-deliver links w g some (w .responses) refl
 
 agrees-from : (links : ℕ) → 1 ≤ links → (w : Exchange) (es : List Event) → Agrees links w → Agrees links (foldl (step links) w es)

@@ -37,7 +37,7 @@ lower-marked d (suc k) p h = by (d .marks) (omega arith)
     by [] h = before-first [] k h
     by (m ∷ ms) h = before-first ms k h
 
--- a free number with none below it
+-- a free number, and no lower one from 1 on is free
 pub record IsLowest (d : Numbers) (n : ℕ) : Type 0 where
   pub from-1 : 1 ≤ n
   pub free-is : markAt d n ≡ free

@@ -1,5 +1,5 @@
--- PROMISE: no reply is matched to a question that it doesn't answer. Of every run from a fresh table with nothing in flight, each reply that was
--- matched, in time or late, answers the question that the host had opened its number for.
+-- PROMISE: no stranger, that is, no reply is matched to a question that it doesn't answer. Of every run from a fresh table with nothing in
+-- flight, each reply that was matched, in time or late, answers the question that the host had opened its number for.
 use mathlib.Core.Logic.{⊎-elim}
 use mathlib.Core.Path.{_≡_}
 use mathlib.Core.List.{List, [], _∷_, List·Memᴰ, List·Memᴰ·not-nil, List·Memᴰ·cases-cons}

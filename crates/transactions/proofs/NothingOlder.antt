@@ -7,22 +7,22 @@ use Prim.Native.Nat.{ℕ, _≤_}
 use Rattle.octets.proofs.LawsTests.{impossible}
 use Rattle.transactions.specs.Kind.{announcement, kind}
 use Rattle.transactions.specs.Table.{Numbers, fresh, rules, afterReply}
-use Rattle.transactions.specs.Exchange.{command, reset, Response, reply, unsolicited, bodyOf, isQuiet, Exchange, Event, deliver, inFlight, delivering, step, run}
+use Rattle.transactions.specs.Exchange.{command, reset, Response, reply, unsolicited, bodyOf, mayBeUnsolicited, Exchange, Event, deliver, inFlight, delivering, step, run}
 use Rattle.transactions.proofs.LawsKind.{announces, no-announcement}
 use Rattle.transactions.proofs.LawsCalls.{reply-by}
 use Rattle.transactions.proofs.LawsFlight.{Carried}
-use Rattle.transactions.proofs.LawsExchange.{Quiet, Agrees, agrees}
+use Rattle.transactions.proofs.LawsExchange.{Unasked, Agrees, agrees}
 
 none-behind : (links : ℕ) (w : Exchange) (s : Response) (ss : List Response) → Agrees links w → w .responses ≡ s ∷ ss → bodyOf links s ≡ announcement
     → inFlight ss (w .requests) ≡ []
-unfolding bodyOf inFlight Carried Quiet
+unfolding bodyOf inFlight Carried Unasked
 none-behind links w (reply (command l n q r₀) rest) ss g e is =
     let c = rw e at (g .carried) in
     absurd (no-announcement l n rest (c .0 .above) (rw (c .0 .no-reset) at is))
 none-behind links w (reply reset rest) ss g e is = let c = rw e at (g .carried) in c .2
 none-behind links w (unsolicited b) ss g e is =
-    let q = rw e at (g .quiet) in
-    let loud = ap (λ x. isQuiet (kind x)) is ∙ ap isQuiet announces in
+    let q = rw e at (g .unasked) in
+    let loud = ap (λ x. mayBeUnsolicited (kind x)) is ∙ ap mayBeUnsolicited announces in
     let z = sym (q .0) ∙ loud in
     impossible cc
 

@@ -1,5 +1,6 @@
--- PROMISE: a table is told by what it shows. The mark of a number is by its bit, of weight 2^n, in the two sets; and two tables that show the same
--- are the same. So an equation between what two tables show is one between the tables, and a refusal hands the very table back.
+-- PROMISE: a table is told by what it shows. The mark of a number is by its bit, of weight 2^n, in the two sets; and two tables of 16-bit
+-- sets that show the same are the same. So an equation between what two tables show is one between the tables, and a refusal hands the very
+-- table back.
 use mathlib.Core.Path.{_≡_, refl, sym, ap, ap₂, _∙_}
 use mathlib.Core.List.{map, _∷_}
 use Prim.Native.Nat.{ℕ, zero, suc, _/_, _%_, _^_, _<_}

@@ -1,7 +1,7 @@
--- PROMISE: a run worked out by hand, the user's own morning (00). Sixteen questions are tried on link 1, and fifteen are asked. The first is given
--- up, and still nothing can be asked. Its reply comes, and is matched to it; only now its number is free, and is used for a sixteenth question,
--- which gets its own reply. Something that nobody asked for arrives on the way and changes nothing. At last a reset frees all numbers, also that
--- of a question which the box left unanswered.
+-- PROMISE: a run worked out by hand, the case that the user tells (00). Sixteen questions are tried on link 1, and fifteen are asked. The
+-- first is given up, and still nothing can be asked. Its reply comes, and is matched to it; only now its number is free, and is used for a
+-- sixteenth question, which gets its own reply. Something that nobody asked for arrives on the way and changes nothing. At last a reset
+-- frees all numbers, also that of a question which the box left unanswered.
 use mathlib.Core.Path.{_≡_, refl}
 use mathlib.Core.List.{List, [], _∷_, _++_}
 use Prim.Native.Nat.{ℕ}
@@ -9,7 +9,7 @@ use lib.ListN.{length, replicate}
 use Rattle.octets.specs.Comparing.{isSame, commonFront}
 use Rattle.transactions.specs.Kind.{kind}
 use Rattle.transactions.specs.Table.{free, given-up, markAt, anyBoth, rules, firstFree, lowest, fresh, afterOpen, afterReset, afterGiveUp, afterReply}
-use Rattle.transactions.specs.Exchange.{isReset, bodyOf, Match, maySend, asking, matching, answering, dropping, delivering, Event, ask, give-up, ask-leave, send-reset, answer, drop-request, volunteer, deliver, step, run}
+use Rattle.transactions.specs.Exchange.{isReset, bodyOf, Match, maySend, asking, matching, answering, dropping, delivering, Event, ask, give-up, ask-leave, send-reset, answer, drop-request, send-unsolicited, deliver, step, run}
 
 -- sixteen times: GET of the channel
 abbrev pub asks : List Event
@@ -22,10 +22,11 @@ gives-up = asks ++ (give-up 1 ∷ ask 1 (0x02 ∷ 0x21 ∷ []) ∷ [])
 abbrev pub comes-late : List Event
 comes-late = gives-up ++ replicate 15 (answer (0x06 ∷ 0x21 ∷ 0x0b ∷ [])) ++ (deliver ∷ [])
 
--- a last status comes unasked, on link 1; GET of whether the interface is up is asked under number 1 and answered; all arrive
+-- a last status comes unasked, on link 1; GET of whether the interface is up is asked under number 1 and answered
 abbrev pub used-again : List Event
-used-again = comes-late ++ (volunteer (0x90 ∷ 0x06 ∷ 0x00 ∷ 0x72 ∷ []) ∷ ask 1 (0x02 ∷ 0x41 ∷ []) ∷ answer (0x06 ∷ 0x41 ∷ 0x01 ∷ []) ∷ [])
+used-again = comes-late ++ (send-unsolicited (0x90 ∷ 0x06 ∷ 0x00 ∷ 0x72 ∷ []) ∷ ask 1 (0x02 ∷ 0x41 ∷ []) ∷ answer (0x06 ∷ 0x41 ∷ 0x01 ∷ []) ∷ [])
 
+-- all of it arrives
 abbrev pub all-arrived : List Event
 all-arrived = used-again ++ replicate 16 deliver
 

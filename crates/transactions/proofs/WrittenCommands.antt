@@ -1,7 +1,7 @@
--- PROMISE: what the host writes is what it means. A command's frame is written exactly where link, number and command are good, the body has at
--- most 1,300 octets and the frame fits; else nothing is, and 0 is returned. A body that `write_command` frames has its link and its number in the header, its command
--- behind it and then the payload; it is never a reset, so that it is one that a host of a run may send; and the reader of its frame gets this
--- body and no other. A reset is 7E 80 01 02 92 7E.
+-- PROMISE: what the host writes is what it means. A command's frame is written exactly where link, number and command are good, the body has
+-- at most 1,300 octets and the frame fits; else nothing is, and 0 is returned. A body that `write_command` frames has its link and its
+-- number in the header, its command behind it and then the payload; it is never a reset, so that it is one that a host of a run may send;
+-- and the reader of its frame gets this body and no other. A reset is 7E 80 01 02 92 7E.
 use mathlib.Core.Logic.{_≢_}
 use mathlib.Core.Path.{_≡_, refl, sym, ap, _∙_}
 use mathlib.Core.Bool.{true, false}
@@ -15,7 +15,7 @@ use Rattle.octets.specs.Body.{headerOf, SpinelBody}
 use Rattle.octets.specs.Octets.{Octets}
 use Rattle.octets.proofs.LawsTests.{by-test}
 use Rattle.octets.proofs.LawsLists.{octets-more, octets-append}
-use Rattle.packed.specs.Packed.{packed, packedAt}
+use Rattle.packed.specs.Packed.{packed, packedIn, packedAt}
 use Rattle.packed.specs.declared.Packed.{Packed}
 use Rattle.packed.specs.declared.Packed.the-variants.{Number, Unreadable}
 use Rattle.packed.proofs.ReadsBack.{packed-size, packed-octets, reads-back}
@@ -106,6 +106,12 @@ module _ (l n c : ℕ) (payload : List ℕ) (fit : Sendable l n c) where
 
   pub command-checked : Octets payload → length body ≤ 1300 → checkedIn [] (frame body) ≡ body ∷ []
   command-checked o most = frame-checked body (written-spinel most) (octets-are o)
+
+-- NOOP on link 0 under 1, and GET of the channel on link 1 under 2: 01's bodies 81 00 and 92 02 21, framed
+pub worked-frames : (frame (commandBody 0 1 0 []) ≡ 0x7e ∷ 0x81 ∷ 0x00 ∷ 0x53 ∷ 0x9a ∷ 0x7e ∷ [])
+    × (frame (commandBody 1 2 2 (0x21 ∷ [])) ≡ 0x7e ∷ 0x92 ∷ 0x02 ∷ 0x21 ∷ 0x36 ∷ 0xf9 ∷ 0x7e ∷ [])
+unfolding frame stuffed withCheck sent isFlag isEscape isSkipped fcs fcsFrom fcsOctet fcsBits fcsBit leOctets packed packedIn
+worked-frames = (refl, refl)
 
 -- ---- a reset
 

@@ -39,7 +39,7 @@ unfoldable pub offers : ℕ → Host → List ℕ → List (List ℕ)
 offers zero h xs = []
 offers (suc n) h xs = xs ∷ cond (eqb (gives h xs .number) 0) [] (offers n (next h xs) (drop (gives h xs .read) xs))
 
--- a call that tells another number reads an octet at least: so many calls are enough
+-- a call that is not refused and tells another number reads an octet at least, so that so many calls are enough
 unfoldable pub offered : Host → List ℕ → List (List ℕ)
 offered h xs = offers (suc (length xs)) h xs
 

@@ -51,10 +51,10 @@ answersTo (unsolicited body) = []
 
 -- what nobody asked for goes under number 0 (003: "All unsolicited or asynchronous commands originating from the NCP MUST use TID zero (0)") and
 -- is no announcement: "a box that resets only when asked"
-abbrev pub isQuiet : BodyKind → Bool
-isQuiet Announcement = false
-isQuiet (Reply n) = eqb n 0
-isQuiet Other = true
+abbrev pub mayBeUnsolicited : BodyKind → Bool
+mayBeUnsolicited Announcement = false
+mayBeUnsolicited (Reply n) = eqb n 0
+mayBeUnsolicited Other = true
 
 -- ---- both ends and the cable between them
 
@@ -197,7 +197,7 @@ pub data Event : Type 0 where
   send-reset : Event  -- the host sends 80 01, once for each leave
   answer : List ℕ → Event  -- the box answers the oldest request
   drop-request : Event  -- the box leaves the oldest request unanswered
-  volunteer : List ℕ → Event  -- the box sends what nobody asked for
+  send-unsolicited : List ℕ → Event  -- the box sends what nobody asked for
   deliver : Event  -- the oldest response arrives
 
 -- what cannot happen changes nothing; `links` is the number of links set up
@@ -212,7 +212,7 @@ step links w ask-leave =
 step links w send-reset = cond (w .leave) (withCable (withTable w (w .numbers) false) (w .requests ++ (reset ∷ [])) (w .responses)) w
 step links w (answer rest) = answering w rest (w .requests)
 step links w drop-request = dropping w (w .requests)
-step links w (volunteer body) = cond (isQuiet (kind body)) (withCable w (w .requests) (w .responses ++ (unsolicited body ∷ []))) w
+step links w (send-unsolicited body) = cond (mayBeUnsolicited (kind body)) (withCable w (w .requests) (w .responses ++ (unsolicited body ∷ []))) w
 step links w deliver = delivering links w (w .responses)
 
 -- every list of events is a run

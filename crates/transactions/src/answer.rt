@@ -19,7 +19,7 @@ pub enum Answer {
     Opened(u8),
     // Of `reset`: a reset may be sent.
     Allowed,
-    // Of `give_up`: the number is given up. It is free again when its reply comes.
+    // Of `give_up`: the number is given up. It is free again when its reply or an announcement comes.
     GivenUp,
     // Of `reply`, like all that follow: a reply to the question of this number, which is free again.
     Answered(u8),

@@ -1,4 +1,5 @@
-// A table in a local, lent to each call: a question is opened under number 1 and given up, and then a body comes.
+// A table in a local, lent to each call: a question is opened under number 1 and given up, and then a body comes. No part of the interface: it
+// shows that the contracts of the functions on a table in one place are what a caller needs.
 use crate::answer::Answer;
 use crate::in_place::give_up;
 use crate::in_place::open;
