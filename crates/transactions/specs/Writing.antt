@@ -33,10 +33,13 @@ pub record Sendable (l n c : ℕ) : Type 0 where
   pub packs : c ≤ 2097151
   pub other : c ≢ 1
 
+abbrev pub maxLink : ℕ
+maxLink = 3
+
 -- the test that decides it (proofs/LawsWriting.antt)
 unfoldable pub isSendable : ℕ → ℕ → ℕ → Bool
 isSendable link number command =
-    leb link 3 && leb 1 number && leb number maxNumber && leb command maxPacked && not (eqb command 1)
+    leb link maxLink && leb 1 number && leb number maxNumber && leb command maxPacked && not (eqb command 1)
 
 -- ---- their frames
 

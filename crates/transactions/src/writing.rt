@@ -11,6 +11,9 @@ ghost use Rattle.octets.specs.Body.{Body as IsBody};
 ghost use Rattle.frame.specs.Frame.{written};
 ghost use Rattle.transactions.specs.Writing.{isSendable, writingFitting, writingCommand, writingReset};
 
+// A header has two bits for the link.
+const MAX_LINK: u8 = 3;
+
 // The longest frame: each octet of a body and of its check escaped, and two flags.
 const MAX_FRAME: usize = 2 * Body::MAX_OCTETS + 6;
 
@@ -18,7 +21,7 @@ const MAX_FRAME: usize = 2 * Body::MAX_OCTETS + 6;
 fn is_sendable(link: u8, number: u8, command: u32) -> bool
     ensures { λ r. ⌜ r ≡ isSendable link number command ⌝ }
 {
-    if 3 < link {
+    if MAX_LINK < link {
         return false;
     }
     if number < 1 {
