@@ -11,7 +11,7 @@ use Rattle.transactions.specs.NumberSet.{digits}
 
 -- ---- the lowest digit and the others, of what the bit operations give
 
-digit-lt : (n : ℕ) → n % 2 < 2
+pub digit-lt : (n : ℕ) → n % 2 < 2
 digit-lt n = omega arith
 
 lowest-of : (x d : ℕ) → d < 2 → (x * 2 + d) % 2 ≡ d

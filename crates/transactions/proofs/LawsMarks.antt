@@ -13,7 +13,7 @@ use lib.Bits.{bitAnd, bitOr, and-step, or-lt, or-zero-r}
 use lib.Count.{trailingZeros, under}
 use Rattle.transactions.specs.NumberSet.{digits}
 use Rattle.transactions.specs.Table.{free, mark, marksOf, isFree, isBoth, anyBoth, firstFree}
-use Rattle.transactions.proofs.LawsDigits.{max-digit, or-lowest, or-others, not-lowest, not-others, half-lt, max-one}
+use Rattle.transactions.proofs.LawsDigits.{digit-lt, max-digit, or-lowest, or-others, not-lowest, not-others, half-lt, max-one}
 
 pub marks-at : (ws gs : List ℕ) (n : ℕ) → length ws ≡ length gs → getD (marksOf ws gs) n free ≡ mark (getD ws n 0) (getD gs n 0)
 unfolding marksOf
@@ -34,9 +34,6 @@ marks-set (w ∷ ws) (g ∷ gs) zero x y = refl
 marks-set (w ∷ ws) (g ∷ gs) (suc n) x y = ap (λ l. mark w g ∷ l) (marks-set ws gs n x y)
 
 -- ---- free: in neither set
-
-digit-lt : (n : ℕ) → n % 2 < 2
-digit-lt n = omega arith
 
 isFree-max : (a b : ℕ) → isFree (mark a b) ≡ eqb (max a b) 0
 isFree-max zero zero = refl
