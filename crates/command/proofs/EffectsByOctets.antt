@@ -195,7 +195,7 @@ effect-reach v b c r start e =
 
 effect-by : (v : View) (b : List ℕ) (w : Verdict) → verdictOf b ≡ w → decisionOf v (headerOf b) (judgedBy v b w) .effect ≡ effectOf b
 unfolding judgedBy decisionOf statusDecision
-effect-by v b (verdict.Refuse step s) e =
+effect-by v b (verdict.Refuse step s cause) e =
     sym (none b (no-reset b _ e (λ q. impossible cc)) (no-power b _ e (λ q. impossible cc)))
 effect-by v b verdict.Noop e = sym (none b (no-reset b _ e (λ q. impossible cc)) (no-power b _ e (λ q. impossible cc)))
 effect-by v b verdict.Reset e = sym (a-reset b (eq-eqb _ _ (verdict-reset b e)))

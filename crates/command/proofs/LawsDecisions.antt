@@ -69,7 +69,7 @@ concluded-header v h c r p l (Done e) = refl
 header-by : (v : View) (b : List ℕ) (w : Verdict) → verdictOf b ≡ w → isReset b ≡ false
     → headerOf (decisionOf v (headerOf b) (judgedBy v b w) .reply) ≡ headerOf b
 unfolding decisionOf judgedBy reached statusDecision statusReply isReset
-header-by v b (verdict.Refuse step s) e n = refl
+header-by v b (verdict.Refuse step s cause) e n = refl
 header-by v b verdict.Noop e n = refl
 header-by v b verdict.Reset e n = impossible (cc (eq-eqb _ _ (verdict-reset b e)))
 header-by v b (verdict.Reach c r start) e n = concluded-header v (headerOf b) c r (drop start b) _ _

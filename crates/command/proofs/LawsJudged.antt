@@ -49,7 +49,7 @@ module _ (v : View) (s : settingsRule (v .settings) ≡ true) (t : linkRule (v .
 
   judged-by : (b : List ℕ) (w : Verdict) → verdictOf b ≡ w → VerdictStatus w → Sound v (judgedBy v b w)
   unfolding judgedBy reached
-  judged-by b (verdict.Refuse step x) e refusal = refusal
+  judged-by b (verdict.Refuse step x cause) e refusal = refusal
   judged-by b verdict.Noop e refusal = tt
   judged-by b verdict.Reset e refusal = tt
   judged-by b (verdict.Reach c r start) e refusal = concluded-sound (headerOf b) c r (drop start b) _ (verdict-reach b c r start e .rule) refl

@@ -103,7 +103,7 @@ module _ (P : ℕ → Type 0) (zero : P 0) (announced : P resetStatus) (refusals
   told-by : (b : List ℕ) (w : Verdict) → verdictOf b ≡ w → (g x : ℕ) → Sound v (judgedBy v b w)
       → decisionOf v (headerOf b) (judgedBy v b w) .reply ≡ statusReply g x → P x
   unfolding judgedBy reached decisionOf statusDecision
-  told-by b (verdict.Refuse step y) w g x sound e = rw (← one-status (headerOf b) y g x e) (refusals y sound)
+  told-by b (verdict.Refuse step y cause) w g x sound e = rw (← one-status (headerOf b) y g x e) (refusals y sound)
   told-by b verdict.Noop w g x sound e = rw (← one-status (headerOf b) 0 g x e) zero
   told-by b verdict.Reset w g x sound e = rw (← one-status _ resetStatus g x e) announced
   told-by b (verdict.Reach c r start) w g x sound e =

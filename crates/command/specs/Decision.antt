@@ -43,7 +43,7 @@ unfoldable pub reached : View → ℕ → Command → Row → List ℕ → Judge
 reached v h c r p = concluded v h c r p (perform (v .link) c (r .kind) p .link) (perform (v .link) c (r .kind) p .outcome)
 
 unfoldable pub judgedBy : View → List ℕ → Verdict → Judged
-judgedBy v b (verdict.Refuse step s) = stopped s
+judgedBy v b (verdict.Refuse step s cause) = stopped s
 judgedBy v b verdict.Noop = noop
 judgedBy v b verdict.Reset = reset
 judgedBy v b (verdict.Reach c r start) = reached v (headerOf b) c r (drop start b)

@@ -93,7 +93,7 @@ pub fn decide(view: View, body: &[u8], out: &mut [u8]) -> Decided
     let header = body[0];
     let link = view.link;
     match verdict_of(body) {
-        Verdict::Refuse(_, status) => report_status(link, header, status, out),
+        Verdict::Refuse(_, status, _) => report_status(link, header, status, out),
         Verdict::Noop => report_status(link, header, 0, out),
         Verdict::Reset => {
             // The announcement has transaction 0 and link 0, whoever asked.

@@ -9,6 +9,8 @@ use borrow.Author.Tests.{lt-ltb, le-ltb}
 use lib.ListN.{length, drop}
 use lib.Seq.{sets, sets-eq}
 use Rattle.octets.proofs.LawsTests.{impossible}
+use Rattle.packed.specs.declared.Cause.{Cause}
+use Rattle.packed.specs.declared.Cause.the-variants.{None}
 use Rattle.typestring.specs.Grammar.{Items, maxOpen, maxOctets}
 use Rattle.typestring.specs.Parse.{Parsed, malformed, parsed, typeOf, isType}
 use Rattle.typestring.specs.Calls.{PartFrom}
@@ -39,10 +41,10 @@ answers-malformed types payload list e = go (typeOf types) e
     go (parsed t s) e = impossible cc
 
 -- a refusal leaves the list as it was
-refuses : (types payload list list′ : List ℕ) (a : Answer) (n : ℕ) → result (typeOf types) payload (length list) ≡ refused n → list′ ≡ list
-    → reported a ≡ record { number = n; count = 0 } → Answered types payload list list′ a
+refuses : (types payload list list′ : List ℕ) (a : Answer) (n : ℕ) (w : Cause) → result (typeOf types) payload (length list) ≡ refused n w → list′ ≡ list
+    → reported a ≡ record { number = n; count = 0; cause = w } → Answered types payload list list′ a
 unfolding reportOf filled
-refuses types payload list list′ a n e same number = rw e (number, same)
+refuses types payload list list′ a n w e same number = rw e (number, same)
 
 -- a list of which none was lent
 none-lent : (ys list : List ℕ) → length ys ≡ 0 → ys ++ list ≡ list
@@ -60,9 +62,9 @@ module _ (types payload list : List ℕ) (typed : isType (typeOf types) ≡ true
         w .1 .short,
       )
 
-  pub answers-long : maxPayload < length payload → Answered types payload list list answer.Misfit
+  pub answers-long : maxPayload < length payload → Answered types payload list list (answer.Misfit None)
   unfolding result
-  answers-long h = refuses types payload list list answer.Misfit 16 (rw (tree .1, lt-ltb _ _ h)) refl refl
+  answers-long h = refuses types payload list list (answer.Misfit None) 16 None (rw (tree .1, lt-ltb _ _ h)) refl refl
 
   module _ (short : length payload ≤ maxPayload) where
     pub readable : ((t : Items) × PartFrom types maxOpen t) × Room types payload 0 0 0
@@ -78,11 +80,11 @@ module _ (types payload list : List ℕ) (typed : isType (typeOf types) ≡ true
       did : Did (payloadReads (tree .0) payload) ys ys′ 0 r′
       did = rw fill (did-filling (length payload) (partReads (tree .0) payload 0) ys ys′ 0 r (first (tree .0) (tree .2)))
 
-      pub answers-misfit : r′ ≡ read.Misfit → Answered types payload list (ys′ ++ list) answer.Misfit
+      pub answers-misfit : (w : Cause) → r′ ≡ read.Misfit w → Answered types payload list (ys′ ++ list) (answer.Misfit w)
       unfolding listed
-      answers-misfit e =
-          refuses types payload list (ys′ ++ list) answer.Misfit 16
-          (result-is ∙ rw (did-misfit (payloadReads (tree .0) payload) ys ys′ 0 (rw e at did)))
+      answers-misfit w e =
+          refuses types payload list (ys′ ++ list) (answer.Misfit w) 16 w
+          (result-is ∙ rw (did-misfit (payloadReads (tree .0) payload) ys ys′ 0 w (rw e at did)))
           (none-lent ys′ list none) refl
 
       module _ (p n : ℕ) (e : r′ ≡ read.Upto p n) where
@@ -101,7 +103,7 @@ module _ (types payload list : List ℕ) (typed : isType (typeOf types) ≡ true
         unfolding listed
         answers-short h =
             let room : length list < 3 * length (found .0) = omega (arith, found .2) in
-            refuses types payload list (ys′ ++ list) answer.ShortList 17 (result-is ∙ rw (found .1, lt-ltb _ _ room)) (none-lent ys′ list none) refl
+            refuses types payload list (ys′ ++ list) answer.ShortList 17 None (result-is ∙ rw (found .1, lt-ltb _ _ room)) (none-lent ys′ list none) refl
 
         pub answers-leaves : 3 * n ≤ length list → (r₂ : Read) (list₂ : List ℕ) → ReadsPart types maxOpen payload 0 (ys′ ++ list) list₂ 0 r₂
             → Answered types payload list list₂ (answer.Leaves n)
@@ -115,4 +117,4 @@ module _ (types payload list : List ℕ) (typed : isType (typeOf types) ≡ true
             let fits : 0 + length (numbers ls) ≤ length list = omega (arith, length-numbers ls) in
             let held : list₂ ≡ numbers ls ++ drop (length (numbers ls)) list =
             d .1 ∙ rw (none-lent ys′ list none) (sets-eq (numbers ls) list 0 fits ∙ ap (λ k. numbers ls ++ drop k list) (zero-add (length (numbers ls)))) in
-            rw (result-is, found .1, le-ltb _ _ room) (ap (λ k. record { number = 0; count = k }) count, held)
+            rw (result-is, found .1, le-ltb _ _ room) (ap (λ k. record { number = 0; count = k; cause = None }) count, held)

@@ -9,6 +9,7 @@ use lib.Seq.{sets}
 use Rattle.octets.proofs.LawsTests.{by-test, impossible}
 use Rattle.octets.proofs.LawsRuns.{each-append}
 use Rattle.octets.proofs.LawsWriting.{sets-append}
+use Rattle.packed.specs.declared.Cause.{Cause}
 use Rattle.datatype.specs.declared.list.Read.{Read}
 use Rattle.datatype.specs.declared.list.Read.the-variants as read
 use Rattle.datatype.specs.Reading.{Leaf, numbers, Reading, misfit, upto, prefixed, andThen, filling}
@@ -24,13 +25,13 @@ length-numbers [] = refl
 length-numbers (l ∷ ls) = omega (arith, length-numbers ls)
 
 -- what an answer tells of the reading
-pub did-misfit : (m : Reading) (l l′ : List ℕ) (k : ℕ) → Did m l l′ k read.Misfit → m ≡ misfit
-did-misfit misfit l l′ k d = refl
-did-misfit (upto p ls) l l′ k d = impossible (cc (d .0))
+pub did-misfit : (m : Reading) (l l′ : List ℕ) (k : ℕ) (w : Cause) → Did m l l′ k (read.Misfit w) → m ≡ misfit w
+did-misfit (misfit v) l l′ k w d = cc d
+did-misfit (upto p ls) l l′ k w d = impossible (cc (d .0))
 
 pub did-upto : (m : Reading) (l l′ : List ℕ) (k p n : ℕ) → Did m l l′ k (read.Upto p n)
     → (ls : List Leaf) × (m ≡ upto p ls) × (n ≡ k + length ls) × (l′ ≡ sets l (3 * k) (numbers ls))
-did-upto misfit l l′ k p n d = impossible (cc d)
+did-upto (misfit w) l l′ k p n d = impossible (cc d)
 did-upto (upto q ls) l l′ k p n d = (ls, cc (d .0), cc (d .0), d .1)
 
 -- what is left of a reading, with the list and the leaves so far, gives its answer
@@ -46,7 +47,7 @@ did-none l p k = (ap (read.Upto p) (omega arith), refl)
 did-after : (ls : List Leaf) (m : Reading) (l l₁ l₂ : List ℕ) (k n : ℕ) (r : Read) → n ≡ k + length ls → l₁ ≡ sets l (3 * k) (numbers ls)
     → Did m l₁ l₂ n r → Did (prefixed ls m) l l₂ k r
 unfolding prefixed
-did-after ls misfit l l₁ l₂ k n r count held d = d
+did-after ls (misfit w) l l₁ l₂ k n r count held d = d
 did-after ls (upto p ms) l l₁ l₂ k n r count held d =
     let place : 3 * n ≡ 3 * k + length (numbers ls) = omega (arith, length-numbers ls) in (
       d .0 ∙ ap (read.Upto p) (omega (arith, length-append ls ms)),
@@ -60,11 +61,12 @@ did-then m go l l₁ l₂ k p n r first second =
     let w = did-upto m l l₁ k p n first in
     rw (w .1) (did-after (w .0) (go p) l l₁ l₂ k n r (w .2) (w .3) second)
 
-pub did-not : (m : Reading) (go : ℕ → Reading) (l l₁ l₂ : List ℕ) (k : ℕ) → Did m l l₁ k read.Misfit → Did (andThen m go) l l₂ k read.Misfit
+pub did-not : (m : Reading) (go : ℕ → Reading) (l l₁ l₂ : List ℕ) (k : ℕ) (w : Cause) → Did m l l₁ k (read.Misfit w)
+    → Did (andThen m go) l l₂ k (read.Misfit w)
 unfolding andThen
-did-not m go l l₁ l₂ k first = rw (did-misfit m l l₁ k first) refl
+did-not m go l l₁ l₂ k w first = rw (did-misfit m l l₁ k w first) refl
 
 pub did-filling : (stop : ℕ) (m : Reading) (l l′ : List ℕ) (k : ℕ) (r : Read) → Did m l l′ k r → Did (filling stop m) l l′ k (fillingTo stop r)
 unfolding filling
-did-filling stop misfit l l′ k r d = rw d refl
+did-filling stop (misfit w) l l′ k r d = rw d refl
 did-filling stop (upto p ls) l l′ k r d = rw (d .0) (by-test (eqb p stop) (λ e. rw e (refl, d .1)) (λ e. rw e refl))

@@ -40,7 +40,7 @@ module _ (part : List ℕ) (from start size next : ℕ) where
 
   number-fits : (r : Packed) → packedAt part from ≡ r → numberSpan from r ≡ At start size next → Fits
   unfolding numberSpan
-  number-fits packed.Unreadable r e = impossible cc
+  number-fits (packed.Unreadable f) r e = impossible cc
   number-fits (packed.Number n to) r e = let s = same e in omega (arith, place-after part from n to r)
 
   text-fits : (n : ℕ) → textAt n part from ≡ At start size next → Fits

@@ -10,6 +10,7 @@ use native.Mathlib.Nat.{sub-zero}
 use lib.ListN.{length, getD, take, drop}
 use lib.Seq.{length-take-le, drop-drop}
 use Rattle.octets.proofs.LawsLists.{front}
+use Rattle.packed.specs.declared.Cause.{Cause}
 use Rattle.typestring.specs.declared.kind.ItemKind.{ItemKind}
 use Rattle.typestring.specs.declared.kind.ItemKind.the-variants as kind
 use Rattle.typestring.specs.declared.kind.Value.{Value}
@@ -57,7 +58,7 @@ module _ (types : List ℕ) (at depth : ℕ) (part : List ℕ) (from : ℕ) (l l
 -- a value's span is within the payload
 pub span-small : (v : Value) (part : List ℕ) (from letter : ℕ) (s : Span) → from ≤ length part → length part ≤ maxPayload → kindOf letter ≡ kind.Value v
     → s ≡ spanOf v part from → Small s
-span-small v part from letter span.Misfit room short e f = tt
+span-small v part from letter (span.Misfit w) room short e f = tt
 span-small v part from letter (span.At start size next) room short e f =
     let g = span-fits v part from start size next room letter e (sym f) in (omega arith, omega arith)
 
@@ -95,9 +96,9 @@ struct-room types part at from leaves start size next room two e =
     record { few = room .few; placed = two; short = omega (arith, room .short); within = omega arith; counted = omega (arith, room .counted) }
 
 module _ (types : List ℕ) (at depth : ℕ) (part : List ℕ) (from : ℕ) (l l′ : List ℕ) (k : ℕ) (e : kindOf (getD types at 0) ≡ kind.Struct) where
-  pub struct-misfit : countedAt part from ≡ span.Misfit → ReadsItem (drop at types) depth part from l l′ k read.Misfit
+  pub struct-misfit : (w : Cause) → countedAt part from ≡ span.Misfit w → ReadsItem (drop at types) depth part from l l′ k (read.Misfit w)
   unfolding contents
-  struct-misfit f = reads-struct types at depth part from l l′ k read.Misfit e (λ t w. rw f refl)
+  struct-misfit w f = reads-struct types at depth part from l l′ k (read.Misfit w) e (λ t u. rw f refl)
 
   pub struct-reads : (start size next : ℕ) (r : Read) → countedAt part from ≡ span.At start size next
       → ReadsPart (drop (at + 2) types) (depth - 1) (take (next - 0) part) start l l′ k r
@@ -133,10 +134,10 @@ module _ (types part : List ℕ) (at depth next count : ℕ) (l l₁ : List ℕ)
   this : Did (partReads t part next) l l₁ count r₁
   this = element t (array-inner types at depth t w .2)
 
-  pub element-misfit : (l₂ : List ℕ) → r₁ ≡ read.Misfit → Did (itemReads (array t) part next) l l₂ count read.Misfit
-  element-misfit l₂ e =
+  pub element-misfit : (l₂ : List ℕ) (v : Cause) → r₁ ≡ read.Misfit v → Did (itemReads (array t) part next) l l₂ count (read.Misfit v)
+  element-misfit l₂ v e =
       rw (array-more types at depth t w part next more-left)
-      (did-not (partReads t part next) (λ p. itemReads (array t) part p) l l₁ l₂ count (rw e at this))
+      (did-not (partReads t part next) (λ p. itemReads (array t) part p) l l₁ l₂ count v (rw e at this))
 
   module _ (q n : ℕ) (e : r₁ ≡ read.Upto q n) where
     pub element-room : count ≤ next + at → (next < q) × (q ≤ length part) × (n ≤ q + at)
@@ -163,11 +164,11 @@ sequence-ends s depth part from l k t shut w = rw (part-ended s depth t shut w) 
 
 module _ (types part : List ℕ) (place depth next count : ℕ) (l l₁ : List ℕ) (r₁ : Read) (t : Items) (w : PartFrom (drop place types) depth t)
     (going : endsPart (drop place types) ≡ false) (item : ReadsItem (drop place types) depth part next l l₁ count r₁) where
-  pub turn-misfit : (l₂ : List ℕ) → r₁ ≡ read.Misfit → Did (partReads t part next) l l₂ count read.Misfit
+  pub turn-misfit : (l₂ : List ℕ) (v : Cause) → r₁ ≡ read.Misfit v → Did (partReads t part next) l l₂ count (read.Misfit v)
   unfolding partReads
-  turn-misfit l₂ e =
+  turn-misfit l₂ v e =
       let x = part-item (drop place types) depth t going w in
-      rw (x .2) (did-not (itemReads (x .0) part next) (λ p. partReads (x .1) part p) l l₁ l₂ count (rw e at (item (x .0) (x .3))))
+      rw (x .2) (did-not (itemReads (x .0) part next) (λ p. partReads (x .1) part p) l l₁ l₂ count v (rw e at (item (x .0) (x .3))))
 
   module _ (q n : ℕ) (e : r₁ ≡ read.Upto q n) (place′ : ℕ) (ends : EndsItem (drop place types) place place′) where
     pub turn-room : Room types part place next count → (place < place′) × Room types part place′ q n

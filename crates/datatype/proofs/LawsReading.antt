@@ -17,17 +17,17 @@ use Rattle.datatype.specs.Reading.{Leaf, leafOf, Reading, misfit, upto, 
 pub both-fit : (m : Reading) (go : ℕ → Reading) (p : ℕ) (ls : List Leaf) → andThen m go ≡ upto p ls
     → (q : ℕ) × (ms : List Leaf) × (ns : List Leaf) × (m ≡ upto q ms) × (go q ≡ upto p ns) × (ls ≡ ms ++ ns)
 unfolding andThen prefixed
-both-fit misfit go p ls e = impossible cc
+both-fit (misfit w) go p ls e = impossible cc
 both-fit (upto q ms) go p ls e = second (go q) refl e
   where
     second : (n : Reading) → go q ≡ n → prefixed ms n ≡ upto p ls
         → (q′ : ℕ) × (ms′ : List Leaf) × (ns : List Leaf) × (upto q ms ≡ upto q′ ms′) × (go q′ ≡ upto p ns) × (ls ≡ ms′ ++ ns)
-    second misfit e f = impossible cc
+    second (misfit w) e f = impossible cc
     second (upto p′ ns) e f = (q, ms, ns, refl, cc, cc)
 
 pub filling-fit : (stop : ℕ) (m : Reading) (p : ℕ) (ls : List Leaf) → filling stop m ≡ upto p ls → (m ≡ upto p ls) × (p ≡ stop)
 unfolding filling
-filling-fit stop misfit p ls e = impossible cc
+filling-fit stop (misfit w) p ls e = impossible cc
 filling-fit stop (upto q ms) p ls e =
     by-test (eqb q stop)
     (λ t. let e′ = rw t at e in let same : q ≡ p = cc in (e′, sym same ∙ eqb-true q stop t))
@@ -36,7 +36,7 @@ filling-fit stop (upto q ms) p ls e =
 pub leaf-fit : (c : ℕ) (s : Span) (p : ℕ) (ls : List Leaf) → leafReads c s ≡ upto p ls
     → (start : ℕ) × (size : ℕ) × (s ≡ span.At start size p) × (ls ≡ leafOf c start size ∷ [])
 unfolding leafReads
-leaf-fit c span.Misfit p ls e = impossible cc
+leaf-fit c (span.Misfit w) p ls e = impossible cc
 leaf-fit c (span.At start size next) p ls e = (start, size, cc, cc)
 
 pub one-leaf : (c : ℕ) (s : Span) (go : ℕ → Reading) (p : ℕ) (ls : List Leaf) → andThen (leafReads c s) go ≡ upto p ls
@@ -49,14 +49,14 @@ one-leaf c s go p ls e =
 pub contents-fit : (s : Span) (go : ℕ → ℕ → Reading) (p : ℕ) (ls : List Leaf) → contents s go ≡ upto p ls
     → (start : ℕ) × (size : ℕ) × (s ≡ span.At start size p) × (go start p ≡ upto p ls)
 unfolding contents
-contents-fit span.Misfit go p ls e = impossible cc
+contents-fit (span.Misfit w) go p ls e = impossible cc
 contents-fit (span.At start size next) go p ls e =
     let w = filling-fit next (go start next) p ls e in
     (start, size, ap (span.At start size) (sym (w .1)), rw (← (w .1)) at (w .0))
 
 then-same : (m : Reading) (f g : ℕ → Reading) → ((p : ℕ) (ls : List Leaf) → m ≡ upto p ls → f p ≡ g p) → andThen m f ≡ andThen m g
 unfolding andThen
-then-same misfit f g h = refl
+then-same (misfit w) f g h = refl
 then-same (upto p ls) f g h = ap (prefixed ls) (h p ls refl)
 
 -- ---- elements, where each takes an octet

@@ -30,7 +30,7 @@ pub record Placed (payload : List ℕ) (room : ℕ) (ls : List Leaf) : Type 0 wh
 -- a list with room for the leaves of a reading
 roomy : (room : ℕ) (m : Reading) (ls : List Leaf) → listed room m ≡ leaves ls → (p : ℕ) × (m ≡ upto p ls) × (3 * length ls ≤ room)
 unfolding listed
-roomy room misfit ls e = impossible cc
+roomy room (misfit w) ls e = impossible cc
 roomy room (upto p ms) ls e =
     by-test (ltb room (3 * length ms)) (λ t. impossible (cc (rw t at e)))
     (λ t. let same : ms ≡ ls = cc (rw t at e) in (p, ap (upto p) same, rw (← same) (ltb-false room (3 * length ms) t)))
@@ -61,7 +61,7 @@ long-enough types payload list long = go (typeOf types) (sound types)
         (λ short. rw short (answered (payloadReads t payload) refl (ltb-false maxPayload (length payload) short)))
       where
         answered : (m : Reading) → payloadReads t payload ≡ m → length payload ≤ maxPayload → reportOf (listed (length list) m) .number ≢ 17
-        answered misfit h short = λ e. omega arith
+        answered (misfit w) h short = λ e. omega arith
         answered (upto p ls) h short =
             let w = typed t s refl in
             let f = filling-fit (length payload) (partReads t payload 0) p ls h in

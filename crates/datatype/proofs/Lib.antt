@@ -7,3 +7,4 @@ pub mod LawsAnswers
 pub mod NoEmptyElement
 pub mod ByGrammar
 pub mod LeavesInPayload
+pub mod FirstFault

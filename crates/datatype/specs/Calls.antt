@@ -6,6 +6,7 @@ use Prim.Native.Nat.{ℕ, _+_, _*_, _≤_}
 use lib.Dec.{eqb}
 use lib.ListN.{length}
 use lib.Seq.{sets}
+use Rattle.packed.specs.declared.Cause.the-variants.{None}
 use Rattle.typestring.specs.Grammar.{Item, Items, maxOctets}
 use Rattle.typestring.specs.Calls.{PartFrom, ItemFrom}
 use Rattle.datatype.specs.declared.leaf.Span.{Span}
@@ -25,18 +26,18 @@ pub record Room (types part : List ℕ) (at from leaves : ℕ) : Type 0 where
 
 -- a span within a payload
 abbrev pub Small : Span → Type 0
-Small span.Misfit = Unit {0}
+Small (span.Misfit w) = Unit {0}
 Small (span.At start size next) = (start ≤ maxPayload) × (size ≤ maxPayload)
 
 -- the answer is that of a reading, and its leaves' numbers stand in the list as far as it goes, behind those of the leaves before
 abbrev pub Did : Reading → List ℕ → List ℕ → ℕ → Read → Type 0
-Did misfit list list′ leaves r = r ≡ read.Misfit
+Did (misfit w) list list′ leaves r = r ≡ read.Misfit w
 Did (upto p ls) list list′ leaves r = (r ≡ read.Upto p (leaves + length ls)) × (list′ ≡ sets list (3 * leaves) (numbers ls))
 
 -- a reading of a part has to reach its end
 abbrev pub fillingTo : ℕ → Read → Read
-fillingTo stop read.Misfit = read.Misfit
-fillingTo stop (read.Upto next leaves) = cond (eqb next stop) (read.Upto next leaves) read.Misfit
+fillingTo stop (read.Misfit w) = read.Misfit w
+fillingTo stop (read.Upto next leaves) = cond (eqb next stop) (read.Upto next leaves) (read.Misfit None)
 
 -- whatever part, or item, is printed at a place, the answer is that of its reading
 abbrev pub ReadsPart : List ℕ → ℕ → List ℕ → ℕ → List ℕ → List ℕ → ℕ → Read → Type 0

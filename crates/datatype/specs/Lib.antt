@@ -1,4 +1,5 @@
 pub mod Leaf
 pub mod Reading
+pub mod Reached
 pub mod Answer
 pub mod Calls

@@ -5,6 +5,8 @@ use Prim.Native.Nat.{ℕ, zero, suc, _+_, _-_, _≤_}
 use lib.Dec.{eqb, ltb}
 use lib.ListN.{length, take}
 use Rattle.octets.specs.Runs.{each}
+use Rattle.packed.specs.declared.Cause.{Cause}
+use Rattle.packed.specs.declared.Cause.the-variants.{None}
 use Rattle.typestring.specs.Grammar.{Item, Items, value, rest, struct, array, end, more}
 use Rattle.datatype.specs.declared.leaf.Span.{Span}
 use Rattle.datatype.specs.declared.leaf.Span.the-variants.{At, Misfit}
@@ -28,33 +30,33 @@ abbrev pub InOrder : ℕ → List Leaf → ℕ → Type 0
 InOrder from [] stop = from ≤ stop
 InOrder from (leaf ∷ ls) stop = (from ≤ leaf .start) × InOrder (leaf .start + leaf .size) ls stop
 
--- the payload does not fit, or the place reached and the leaves up to it
+-- the payload does not fit, with the cause of the first fault, or the place reached and the leaves up to it
 pub data Reading : Type 0 where
-  misfit : Reading
+  misfit : Cause → Reading
   upto : ℕ → List Leaf → Reading
 
 unfoldable pub prefixed : List Leaf → Reading → Reading
-prefixed ls misfit = misfit
+prefixed ls (misfit w) = misfit w
 prefixed ls (upto p ms) = upto p (ls ++ ms)
 
 -- one reading, and another from where it stopped
 unfoldable pub andThen : Reading → (ℕ → Reading) → Reading
-andThen misfit go = misfit
+andThen (misfit w) go = misfit w
 andThen (upto p ls) go = prefixed ls (go p)
 
 -- "A reading consumes everything, inside each t too": it stops at the part's end
 unfoldable pub filling : ℕ → Reading → Reading
-filling stop misfit = misfit
-filling stop (upto p ls) = cond (eqb p stop) (upto p ls) misfit
+filling stop (misfit w) = misfit w
+filling stop (upto p ls) = cond (eqb p stop) (upto p ls) (misfit None)
 
 -- a value that stands in the payload is a leaf
 unfoldable pub leafReads : ℕ → Span → Reading
-leafReads letter Misfit = misfit
+leafReads letter (Misfit w) = misfit w
 leafReads letter (At start size next) = upto next (leafOf letter start size ∷ [])
 
 -- the contents of a t, `go` being how they are read from a start to an end
 unfoldable pub contents : Span → (ℕ → ℕ → Reading) → Reading
-contents Misfit go = misfit
+contents (Misfit w) go = misfit w
 contents (At start size next) go = filling next (go start next)
 
 -- elements up to a place; the first number bounds them, and the octets there are enough, as no element takes none

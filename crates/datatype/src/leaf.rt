@@ -1,6 +1,7 @@
 // Where one value stands in a payload. `part` is the payload up to the end of the part that is read.
 use octets::find_octet;
 use octets::read_le;
+use packed::Cause;
 use packed::Packed;
 use packed::read_packed;
 use typestring::Value;
@@ -12,9 +13,9 @@ ghost use Rattle.octets.specs.Finding.{before};
 ghost use Rattle.packed.specs.Packed.{packedAt};
 ghost use Rattle.datatype.specs.Leaf.{fixedAt, boolAt, numberSpan, textAt, countedAt, spanOf, restOf};
 
-// Where a value stands: its start, its length and the place after it; or that it does not fit.
+// Where a value stands: its start, its length and the place after it; or that it does not fit, and the fault if it is a packed integer.
 pub enum Span {
-    Misfit,
+    Misfit(Cause),
     At(usize, usize, usize),
 }
 
@@ -36,7 +37,7 @@ fn fixed_at(width: usize, part: &[u8], from: usize) -> Span
     ensures { λ r. ⌜ r ≡ fixedAt width (now (part .entry)) from ⌝ }
 {
     if part.len() - from < width {
-        return Span::Misfit;
+        return Span::Misfit(Cause::None);
     }
     Span::At(from, width, from + width)
 }
@@ -47,7 +48,7 @@ fn bool_at(part: &[u8], from: usize) -> Span
 {
     if from < part.len() {
         if 1 < part[from] {
-            return Span::Misfit;
+            return Span::Misfit(Cause::None);
         }
     }
     fixed_at(1, part, from)
@@ -57,7 +58,7 @@ fn packed_at(part: &[u8], from: usize) -> Span
     ensures { λ r. ⌜ r ≡ numberSpan from (packedAt (now (part .entry)) from) ⌝ }
 {
     match read_packed(part, from) {
-        Packed::Unreadable => Span::Misfit,
+        Packed::Unreadable(fault) => Span::Misfit(Cause::Integer(fault)),
         Packed::Number(_, next) => Span::At(from, next - from, next),
     }
 }
@@ -68,12 +69,12 @@ fn text_at(part: &[u8], from: usize) -> Span
 {
     let zero = find_octet(part, from, 0);
     if part.len() <= zero {
-        return Span::Misfit;
+        return Span::Misfit(Cause::None);
     }
     if is_utf8(&part[from..zero]) {
         return Span::At(from, zero - from, zero + 1);
     }
-    Span::Misfit
+    Span::Misfit(Cause::None)
 }
 
 // The octets behind a 16-bit count of them.
@@ -82,12 +83,12 @@ pub fn counted_at(part: &[u8], from: usize) -> Span
     ensures { λ r. ⌜ r ≡ countedAt (now (part .entry)) from ⌝ }
 {
     if part.len() - from < 2 {
-        return Span::Misfit;
+        return Span::Misfit(Cause::None);
     }
     let start = from + 2;
     let size = read_le(part, from, 2) as usize;
     if part.len() - start < size {
-        return Span::Misfit;
+        return Span::Misfit(Cause::None);
     }
     Span::At(start, size, start + size)
 }

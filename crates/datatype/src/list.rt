@@ -1,5 +1,6 @@
 // The lent list of leaves, three numbers a leaf: letter, start, length.
 use crate::leaf::Span;
+use packed::Cause;
 ghost use mathlib.Core.Path.{_≡_};
 ghost use Prim.Native.Nat.{_+_, _≤_};
 ghost use lib.ListN.{set};
@@ -10,7 +11,7 @@ ghost use Rattle.datatype.specs.Calls.{Small, Did};
 
 // What reading has come to: the payload does not fit, or the place reached in it and the number of leaves so far.
 pub enum Read {
-    Misfit,
+    Misfit(Cause),
     Upto(usize, usize),
 }
 
@@ -20,7 +21,7 @@ pub fn put_leaf(list: &mut [u32], leaves: usize, letter: u8, span: Span) -> Read
     ensures { λ r. ⌜ Did (leafReads letter span) (now (list .entry)) (now (list .exit)) leaves r ⌝ }
 {
     match span {
-        Span::Misfit => Read::Misfit,
+        Span::Misfit(cause) => Read::Misfit(cause),
         Span::At(start, size, next) => {
             let at = 3 * leaves;
             put_number(list, at, letter as u32);

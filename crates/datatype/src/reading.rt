@@ -5,6 +5,7 @@ use crate::leaf::rest_of;
 use crate::leaf::span_of;
 use crate::list::Read;
 use crate::list::put_leaf;
+use packed::Cause;
 use typestring::ItemKind;
 use typestring::TypeString;
 use typestring::ends_part;
@@ -33,8 +34,8 @@ pub enum Answer {
     Leaves(usize),
     // 15: the type string is not well-formed.
     Malformed,
-    // 16: the payload does not fit it.
-    Misfit,
+    // 16: the payload does not fit it; and the fault of a packed integer, where that is the first from the left.
+    Misfit(Cause),
     // 17: the list has fewer than three numbers for each leaf.
     ShortList,
 }
@@ -47,8 +48,20 @@ impl Answer {
         match self {
             Answer::Leaves(_) => 0,
             Answer::Malformed => 15,
-            Answer::Misfit => 16,
+            Answer::Misfit(_) => 16,
             Answer::ShortList => 17,
+        }
+    }
+
+    // The fault of a packed integer, where that is why the payload does not fit.
+    pub fn cause(self) -> Cause
+        ensures { λ r. ⌜ r ≡ reported self .cause ⌝ }
+    {
+        match self {
+            Answer::Leaves(_) => Cause::None,
+            Answer::Malformed => Cause::None,
+            Answer::Misfit(cause) => cause,
+            Answer::ShortList => Cause::None,
         }
     }
 }
@@ -62,7 +75,7 @@ pub fn read_typed(types: &[u8], payload: &[u8], list: &mut [u32]) -> Answer
         let end = payload.len();
         let room = list.len();
         if Payload::MAX_OCTETS < end {
-            return Answer::Misfit;
+            return Answer::Misfit(Cause::None);
         }
         // A first reading, which is lent none of the list, only counts: a refusal has to leave the list as it was.
         match filling(
@@ -77,7 +90,7 @@ pub fn read_typed(types: &[u8], payload: &[u8], list: &mut [u32]) -> Answer
                 0,
             ),
         ) {
-            Read::Misfit => Answer::Misfit,
+            Read::Misfit(cause) => Answer::Misfit(cause),
             Read::Upto(_, leaves) => {
                 if room < 3 * leaves {
                     return Answer::ShortList;
@@ -112,8 +125,8 @@ fn read_sequence(
             return Read::Upto(next, count);
         }
         match read_item(types, place, depth, part, next, list, count) {
-            Read::Misfit => {
-                return Read::Misfit;
+            Read::Misfit(cause) => {
+                return Read::Misfit(cause);
             }
             Read::Upto(reached, counted) => {
                 next = reached;
@@ -140,7 +153,7 @@ fn read_item(
     match kind_of(letter) {
         ItemKind::Value(value) => put_leaf(list, leaves, letter, span_of(value, part, from)),
         ItemKind::Struct => match counted_at(part, from) {
-            Span::Misfit => Read::Misfit,
+            Span::Misfit(cause) => Read::Misfit(cause),
             Span::At(start, _, next) => filling(
                 next,
                 read_sequence(
@@ -159,8 +172,8 @@ fn read_item(
             let mut count = leaves;
             while next < part.len() {
                 match read_sequence(types, at + 2, depth - 1, part, next, list, count) {
-                    Read::Misfit => {
-                        return Read::Misfit;
+                    Read::Misfit(cause) => {
+                        return Read::Misfit(cause);
                     }
                     Read::Upto(reached, counted) => {
                         next = reached;
@@ -180,12 +193,12 @@ fn filling(stop: usize, read: Read) -> Read
     ensures { λ r. ⌜ r ≡ fillingTo stop read ⌝ }
 {
     match read {
-        Read::Misfit => Read::Misfit,
+        Read::Misfit(cause) => Read::Misfit(cause),
         Read::Upto(next, leaves) => {
             if next == stop {
                 return Read::Upto(next, leaves);
             }
-            Read::Misfit
+            Read::Misfit(Cause::None)
         }
     }
 }

@@ -10,6 +10,8 @@ use lib.ListN.{drop}
 use Rattle.octets.specs.Body.{headerOf, SpinelBody}
 use Rattle.octets.proofs.LawsRanges.{inside}
 use Rattle.octets.proofs.LawsTests.{by-test}
+use Rattle.packed.specs.declared.Cause.{Cause}
+use Rattle.packed.specs.declared.Cause.the-variants.{None}
 use Rattle.property.specs.declared.commands.Command.{Command}
 use Rattle.property.specs.declared.row.Row.{Row}
 use Rattle.device.specs.State.{fresh}
@@ -41,22 +43,22 @@ goesOn d b c r start =
 pub data Means (d : Device) (b : List ℕ) : Class → Report → Type 0 where
   -- step 1: nothing changes
   by-link : (OnSetUp (d .settings .links) b → ⊥) → engine d b ≡ record { device = d; reply = statusReply (headerOf b) 6 }
-      → Means d b (Stopped 1 6) (atStep 1 6)
+      → Means d b (Stopped 1 6 None) (atStep 1 6 None)
   -- steps 2, 4 and 5: a refusal
-  by-step : {n s : ℕ} → OnSetUp (d .settings .links) b → verdictOf b ≡ verdict.Refuse n s → Told b (verdict.Refuse n s)
+  by-step : {n s : ℕ} {w : Cause} → OnSetUp (d .settings .links) b → verdictOf b ≡ verdict.Refuse n s w → Told b (verdict.Refuse n s w)
       → engine d b ≡ record { device = statusSet d (linkOf b) s; reply = statusReply (headerOf b) s }
-      → Means d b (Stopped n s) (atStep n s)
+      → Means d b (Stopped n s w) (atStep n s w)
   -- step 3
   noop : OnSetUp (d .settings .links) b → Told b verdict.Noop
       → engine d b ≡ record { device = statusSet d (linkOf b) 0; reply = statusReply (headerOf b) 0 }
-      → Means d b Noop (atStep 3 0)
+      → Means d b Noop (atStep 3 0 None)
   reset : OnSetUp (d .settings .links) b → Told b verdict.Reset
       → engine d b ≡ record { device = fresh (d .settings); reply = 0x80 ∷ 0x06 ∷ 0x00 ∷ 0x72 ∷ [] }
-      → Means d b Reset (atStep 3 114)
+      → Means d b Reset (atStep 3 114 None)
   -- steps 1 to 5 have passed
   reaches : {c : Command} {r : Row} {start : ℕ} → OnSetUp (d .settings .links) b → verdictOf b ≡ verdict.Reach c r start
       → Told b (verdict.Reach c r start) → engine d b ≡ goesOn d b c r start
-      → Means d b Reaches (atStep 6 0)
+      → Means d b Reaches (atStep 6 0 None)
 
 module _ (d : Device) (b : List ℕ) where
   judged-as : (w : Verdict) → verdictOf b ≡ w → judged (viewOf (linkOf b) d) b ≡ judgedBy (viewOf (linkOf b) d) b w
@@ -74,7 +76,7 @@ module _ (d : Device) (b : List ℕ) where
 
   by-verdict : isSetUp (d .settings) b ≡ true → (w : Verdict) → verdictOf b ≡ w → Told b w → Means d b (verdictClass w) (reported (verdictClass w))
   unfolding judgedBy
-  by-verdict up (verdict.Refuse n s) e t = by-step (on up) e t (refusal-status d b up s (judged-as (verdict.Refuse n s) e))
+  by-verdict up (verdict.Refuse n s w) e t = by-step (on up) e t (refusal-status d b up s (judged-as (verdict.Refuse n s w) e))
   by-verdict up verdict.Noop e t = noop (on up) t (noop-status d b up (judged-as verdict.Noop e))
   by-verdict up verdict.Reset e t = reset (on up) t (reset-status d b up (judged-as verdict.Reset e))
   by-verdict up (verdict.Reach c r start) e t = reaches (on up) e t (goes-on c r start up e)

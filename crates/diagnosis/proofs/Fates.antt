@@ -23,7 +23,7 @@ pub refusal-14 : (links : ℕ) (b : List ℕ) → isBetween 1 4 links ≡ false 
 refusal-14 links b h = ap reported (bad-links links b h)
 
 number-by : (w : Verdict) → reported (verdictClass w) .number ≡ 0
-number-by (Refuse n s) = refl
+number-by (Refuse n s cause) = refl
 number-by Noop = refl
 number-by Reset = refl
 number-by (Reach c r start) = refl

@@ -35,7 +35,7 @@ three-octets b at n next e =
 -- the command ends at the fourth octet or before, and so the property number at the seventh
 by-command : (b : List ℕ) (q : Packed) → packedAt b 1 ≡ q → byCommand (take maxHead b) q ≡ byCommand b q
 unfolding byCommand
-by-command b Unreadable e = refl
+by-command b (Unreadable f) e = refl
 by-command b (Number n next) e = rw (number-front b next maxHead (omega (arith, three-octets b 1 n next e)))
 
 pub seven-octets : (b : List ℕ) → verdict (take 7 b) ≡ verdict b

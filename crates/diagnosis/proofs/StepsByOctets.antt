@@ -24,12 +24,12 @@ by-row b n at id start (At r) names e f = chosen (Told b) (allows r (commandOf n
 
 by-property : (b : List ℕ) (n at : ℕ) (q : Packed) → Names b n at → packedAt b at ≡ q → Told b (byProperty (commandOf n) q)
 unfolding byProperty
-by-property b n at Unreadable names e = property-unreadable names e
+by-property b n at (Unreadable f) names e = property-unreadable names e
 by-property b n at (Number id start) names e = by-row b n at id start (lookup id) names e refl
 
 by-command : (b : List ℕ) (q : Packed) → packedAt b 1 ≡ q → Told b (byCommand b q)
 unfolding byCommand
-by-command b Unreadable e = command-unreadable e
+by-command b (Unreadable f) e = command-unreadable e
 by-command b (Number n at) e =
     chosen (Told b) (eqb n 0) (λ t. is-noop (e ∙ ap (λ m. Number m at) (eqb-true n 0 t)))
     (λ t. chosen (Told b) (eqb n 1) (λ u. is-reset (e ∙ ap (λ m. Number m at) (eqb-true n 1 u)))

@@ -1,6 +1,7 @@
 // How far a body gets, by its first octets (02, T-02).
 use device::Device;
 use octets::Body;
+use packed::Cause;
 use property::status;
 use request::Verdict;
 use request::verdict_of;
@@ -20,8 +21,8 @@ pub enum Class {
     Short,
     // 6: the top two header bits are not 10.
     BadHeader,
-    // Stopped by 01's step of this number (1, 2, 4 or 5), with this status.
-    Stopped(u8, u8),
+    // Stopped by 01's step of this number (1, 2, 4 or 5), with this status; and the fault of a packed integer, where that stopped it.
+    Stopped(u8, u8, Cause),
     // Answered by step 3.
     Noop,
     Reset,
@@ -42,7 +43,7 @@ impl Class {
             Class::TooLong => 4,
             Class::Short => 2,
             Class::BadHeader => 6,
-            Class::Stopped(_, _) => 0,
+            Class::Stopped(_, _, _) => 0,
             Class::Noop => 0,
             Class::Reset => 0,
             Class::Reaches => 0,
@@ -58,7 +59,7 @@ impl Class {
             Class::TooLong => 0,
             Class::Short => 0,
             Class::BadHeader => 0,
-            Class::Stopped(step, _) => step,
+            Class::Stopped(step, _, _) => step,
             Class::Noop => 3,
             Class::Reset => 3,
             Class::Reaches => 6,
@@ -74,10 +75,26 @@ impl Class {
             Class::TooLong => 0,
             Class::Short => 0,
             Class::BadHeader => 0,
-            Class::Stopped(_, status) => status,
+            Class::Stopped(_, status, _) => status,
             Class::Noop => 0,
             Class::Reset => status::RESET_SOFTWARE,
             Class::Reaches => 0,
+        }
+    }
+
+    // The fault of a packed integer, where that stopped the body.
+    pub fn cause(self) -> Cause
+        ensures { λ r. ⌜ r ≡ reported self .cause ⌝ }
+    {
+        match self {
+            Class::BadLinks => Cause::None,
+            Class::TooLong => Cause::None,
+            Class::Short => Cause::None,
+            Class::BadHeader => Cause::None,
+            Class::Stopped(_, _, cause) => cause,
+            Class::Noop => Cause::None,
+            Class::Reset => Cause::None,
+            Class::Reaches => Cause::None,
         }
     }
 }
@@ -92,10 +109,10 @@ fn head_class(links: usize, head: &[u8]) -> Class
         return Class::BadHeader;
     }
     if links <= (header / 16 % 4) as usize {
-        return Class::Stopped(1, status::INVALID_INTERFACE);
+        return Class::Stopped(1, status::INVALID_INTERFACE, Cause::None);
     }
     match verdict_of(head) {
-        Verdict::Refuse(step, status) => Class::Stopped(step, status),
+        Verdict::Refuse(step, status, cause) => Class::Stopped(step, status, cause),
         Verdict::Noop => Class::Noop,
         Verdict::Reset => Class::Reset,
         Verdict::Reach(_, _, _) => Class::Reaches,

@@ -11,6 +11,7 @@ use lib.ListN.{length, getD, take, drop, drop-of-length-le}
 use Rattle.octets.proofs.LawsLists.{drop-next}
 use Rattle.octets.proofs.LawsTests.{by-test}
 use Rattle.packed.specs.Packed.{packed, packedIn, joined, numberIn, maxPacked}
+use Rattle.packed.specs.declared.Fault.the-variants.{RanOut}
 use Rattle.packed.specs.declared.Packed.{Packed}
 use Rattle.packed.specs.declared.Packed.the-variants.{Number, Unreadable}
 
@@ -48,7 +49,7 @@ packed-next n most h = rw (packed-more 1 n h, packed-room 1 (n / 128) (omega ari
 -- two joinings are one, which is how a loop reads on
 pub joined-joined : (n scale low : ℕ) (r : Packed) → joined n scale (joined low 128 r) ≡ joined (n + scale * low) (scale * 128) r
 unfolding joined
-joined-joined n scale low Unreadable = refl
+joined-joined n scale low (Unreadable f) = refl
 joined-joined n scale low (Number m next) =
     by-test (eqb m 0)
     (λ e. rw e)
@@ -63,10 +64,9 @@ number-take (suc k) at [] = refl
 number-take (suc k) at (x ∷ xs) = rw (number-take k (at + 1) xs)
 
 module _ (s : List ℕ) (at : ℕ) where
-  pub number-none : (k : ℕ) → length s ≤ at → numberIn k at (drop at s) ≡ Unreadable
+  pub number-none : (k : ℕ) → 0 < k → length s ≤ at → numberIn k at (drop at s) ≡ Unreadable RanOut
   unfolding numberIn
-  number-none zero h = refl
-  number-none (suc k) h = rw drop-of-length-le
+  number-none (suc k) pos h = rw drop-of-length-le
 
   pub number-last : (k : ℕ) → 0 < k → at < length s → getD s at 0 < 128 → numberIn k at (drop at s) ≡ Number (getD s at 0) (at + 1)
   unfolding numberIn

@@ -1,3 +1,4 @@
 pub mod LawsPacked
 pub mod ReadsBack
 pub mod OneSpelling
+pub mod WhichFault

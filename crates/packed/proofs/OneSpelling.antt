@@ -1,5 +1,5 @@
 -- PROMISE: each number has one spelling. Whatever is read is what is written for the number read, goes on and stays within the list; an
--- octet below 128 is a number by itself; the answer depends on the at most three octets from the place; and a place at or past the end is unreadable.
+-- octet below 128 is a number by itself; the answer depends on the at most three octets from the place; and at a place at or past the end the octets ran out.
 use mathlib.Core.Path.{_≡_, sym, ap, _∙_}
 use mathlib.Core.List.{List, [], _∷_, _++_}
 use Prim.Native.Nat.{ℕ, zero, suc, _+_, _*_, _-_, _/_, _%_, _^_, _<_, _≤_}
@@ -13,6 +13,7 @@ use Rattle.octets.specs.Octets.{Octets}
 use Rattle.octets.proofs.LawsLists.{drop-next, octets-drop}
 use Rattle.octets.proofs.LawsTests.{by-test, impossible}
 use Rattle.packed.specs.Packed.{packed, packedIn, joined, numberIn, packedAt, maxPacked}
+use Rattle.packed.specs.declared.Fault.the-variants.{RanOut}
 use Rattle.packed.specs.declared.Packed.{Packed}
 use Rattle.packed.specs.declared.Packed.the-variants.{Number, Unreadable}
 use Rattle.packed.proofs.LawsPacked.{packed-last, packed-more, packed-room, number-none, number-take}
@@ -28,7 +29,7 @@ pub record Spelled (xs : List ℕ) (at n next : ℕ) : Type 0 where
 from-joined : {P : Type 0} (low scale n next : ℕ) (r : Packed) → joined low scale r ≡ Number n next
     → ((m : ℕ) → r ≡ Number m next → (m ≡ 0 → ⊥) → low + scale * m ≡ n → P) → P
 unfolding joined
-from-joined low scale n next Unreadable e go = impossible cc
+from-joined low scale n next (Unreadable f) e go = impossible cc
 from-joined low scale n next (Number m to) e go =
     by-test (eqb m 0) (λ t. impossible (cc (rw t at e))) (λ t. let e' = rw t at e in go m (cc) (eqb-false m 0 t) (cc))
 
@@ -106,6 +107,6 @@ pub same-octets : (xs ys : List ℕ) (at : ℕ) → take 3 (drop at xs) ≡ take
 unfolding packedAt
 same-octets xs ys at e = sym (number-take 3 at (drop at xs)) ∙ ap (numberIn 3 at) e ∙ number-take 3 at (drop at ys)
 
-pub past-end : (xs : List ℕ) (at : ℕ) → length xs ≤ at → packedAt xs at ≡ Unreadable
+pub past-end : (xs : List ℕ) (at : ℕ) → length xs ≤ at → packedAt xs at ≡ Unreadable RanOut
 unfolding packedAt
-past-end xs at h = number-none xs at 3 h
+past-end xs at h = number-none xs at 3 (omega arith) h

@@ -16,7 +16,7 @@ use Rattle.packed.specs.Packed.{packed, packedIn, joined, numberIn, pack
 use Rattle.packed.specs.declared.Packed.the-variants.{Number}
 use Rattle.packed.proofs.LawsPacked.{packed-last, packed-more}
 
-size-in : (k n : ℕ) → (1 ≤ length (packedIn k n)) × (length (packedIn k n) ≤ suc k)
+pub size-in : (k n : ℕ) → (1 ≤ length (packedIn k n)) × (length (packedIn k n) ≤ suc k)
 unfolding packedIn
 size-in zero n = omega arith
 size-in (suc k) n =

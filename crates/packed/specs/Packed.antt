@@ -4,6 +4,7 @@ use mathlib.Core.Bool.{cond}
 use mathlib.Core.List.{List, [], _∷_}
 use lib.Dec.{eqb, ltb}
 use lib.ListN.{drop}
+use Rattle.packed.specs.declared.Fault.the-variants.{RanOut, TooLong, NotShortest}
 use Rattle.packed.specs.declared.Packed.{Packed}
 use Rattle.packed.specs.declared.Packed.the-variants.{Number, Unreadable}
 
@@ -21,13 +22,13 @@ packed n = packedIn 2 n
 
 -- `low` and, `scale` times, the number that the octets after it stand for; that is not 0, or a shorter spelling exists
 unfoldable pub joined : ℕ → ℕ → Packed → Packed
-joined low scale Unreadable = Unreadable
-joined low scale (Number n next) = cond (eqb n 0) Unreadable (Number (low + scale * n) next)
+joined low scale (Unreadable f) = Unreadable f
+joined low scale (Number n next) = cond (eqb n 0) (Unreadable NotShortest) (Number (low + scale * n) next)
 
 -- the number in at most so many octets, which stand from a place on; none where they run out, or where there would be one more
 unfoldable pub numberIn : ℕ → ℕ → List ℕ → Packed
-numberIn zero at xs = Unreadable
-numberIn (suc most) at [] = Unreadable
+numberIn zero at xs = Unreadable TooLong
+numberIn (suc most) at [] = Unreadable RanOut
 numberIn (suc most) at (x ∷ xs) = cond (ltb x 128) (Number x (at + 1)) (joined (x - 128) 128 (numberIn most (at + 1) xs))
 
 -- the packed integer at a place of a list

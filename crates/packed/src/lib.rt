@@ -7,10 +7,26 @@ ghost use lib.ListN.{length};
 ghost use Rattle.octets.specs.Writing.{Wrote};
 ghost use Rattle.packed.specs.Packed.{packed, packedAt, maxPacked};
 
+// Why octets at a place are no packed integer.
+pub enum Fault {
+    // The octets ran out: there is none, or one or two that all have the top bit set.
+    RanOut,
+    // The third octet still has its top bit set.
+    TooLong,
+    // A shorter spelling exists.
+    NotShortest,
+}
+
 // What stands at a place: a number and the place after it, or no packed integer.
 pub enum Packed {
     Number(u32, usize),
-    Unreadable,
+    Unreadable(Fault),
+}
+
+// What a refusal tells beside its number or its status: the fault of a packed integer, where that is the first fault.
+pub enum Cause {
+    None,
+    Integer(Fault),
 }
 
 impl Packed {
@@ -22,7 +38,7 @@ pub fn read_packed(octets: &[u8], at: usize) -> Packed
     ensures { λ r. ⌜ r ≡ packedAt (now (octets .entry)) at ⌝ }
 {
     if octets.len() <= at {
-        return Packed::Unreadable;
+        return Packed::Unreadable(Fault::RanOut);
     }
     let first = octets[at] as u32;
     let mut next = at + 1;
@@ -34,13 +50,13 @@ pub fn read_packed(octets: &[u8], at: usize) -> Packed
     let mut left: usize = 2;
     while 0 < left {
         if octets.len() <= next {
-            return Packed::Unreadable;
+            return Packed::Unreadable(Fault::RanOut);
         }
         let octet = octets[next] as u32;
         next += 1;
         // A last octet of 0 adds nothing: a shorter spelling exists.
         if octet == 0 {
-            return Packed::Unreadable;
+            return Packed::Unreadable(Fault::NotShortest);
         }
         if octet < 128 {
             return Packed::Number(n + scale * octet, next);
@@ -49,7 +65,7 @@ pub fn read_packed(octets: &[u8], at: usize) -> Packed
         scale *= 128;
         left -= 1;
     }
-    Packed::Unreadable
+    Packed::Unreadable(Fault::TooLong)
 }
 
 // Writes a number of at most 2,097,151 in the fewest octets.

@@ -49,7 +49,7 @@ from-found id (At x) r a e = let same : x ≡ r = cc in rw (← same) a
 by-property : (d c : Command) (q : Packed) (r : Row) (start : ℕ) → byProperty d q ≡ Reach c r start
     → (q ≡ Number (r .id) start) × (d ≡ c) × (allows r c ≡ true) × (rowRule r ≡ true) × (lookup (r .id) ≡ At r)
 unfolding byProperty
-by-property d c Unreadable r start e = impossible cc
+by-property d c (Unreadable f) r start e = impossible cc
 by-property d c (Number id at) r start e =
     let t = by-row d c at start (lookup id) r e in
     let f = from-found id (lookup id) r (lookup-asked id) (t .0) in
@@ -58,7 +58,7 @@ by-property d c (Number id at) r start e =
 by-command : (b : List ℕ) (q : Packed) (c : Command) (r : Row) (start : ℕ)
     → packedAt b 1 ≡ q → byCommand b q ≡ Reach c r start → Reached b c r start
 unfolding byCommand
-by-command b Unreadable c r start p e = impossible cc
+by-command b (Unreadable f) c r start p e = impossible cc
 by-command b (Number n next) c r start p e =
     by-test (eqb n 0) (λ t. let e' = rw t at e in impossible cc)
     (λ t. by-test (eqb n 1) (λ u. let e' = rw (t, u) at e in impossible cc)
@@ -93,12 +93,12 @@ row-no-reset c start (At r) e = by-test (allows r c) (λ t. let e' = rw t at e i
 
 property-no-reset : (c : Command) (q : Packed) → byProperty c q ≡ Reset → ⊥
 unfolding byProperty
-property-no-reset c Unreadable e = impossible cc
+property-no-reset c (Unreadable f) e = impossible cc
 property-no-reset c (Number id start) e = row-no-reset c start (lookup id) e
 
 command-reset : (b : List ℕ) (q : Packed) → packedAt b 1 ≡ q → byCommand b q ≡ Reset → getD b 1 0 ≡ 1
 unfolding byCommand
-command-reset b Unreadable p e = impossible cc
+command-reset b (Unreadable f) p e = impossible cc
 command-reset b (Number n next) p e =
     by-test (eqb n 0) (λ t. let e' = rw t at e in impossible cc)
     (λ t. by-test (eqb n 1)
@@ -114,7 +114,7 @@ verdict-reset b e = command-reset b (packedAt b 1) refl e
 -- ---- the statuses of steps 2 to 5
 
 abbrev pub VerdictStatus : Verdict → Type 0
-VerdictStatus (Refuse step s) = RefusalStatus s
+VerdictStatus (Refuse step s cause) = RefusalStatus s
 VerdictStatus Noop = Unit {0}
 VerdictStatus Reset = Unit {0}
 VerdictStatus (Reach c r start) = Unit {0}
@@ -126,12 +126,12 @@ row-status c start (At r) = chosen VerdictStatus (allows r c) (λ _. tt) (λ _. 
 
 property-status : (c : Command) (q : Packed) → VerdictStatus (byProperty c q)
 unfolding byProperty
-property-status c Unreadable = parse-error
+property-status c (Unreadable f) = parse-error
 property-status c (Number id start) = row-status c start (lookup id)
 
 command-status : (b : List ℕ) (q : Packed) → VerdictStatus (byCommand b q)
 unfolding byCommand
-command-status b Unreadable = parse-error
+command-status b (Unreadable f) = parse-error
 command-status b (Number n next) =
     chosen VerdictStatus (eqb n 0) (λ _. tt)
     (λ _. chosen VerdictStatus (eqb n 1) (λ _. tt)

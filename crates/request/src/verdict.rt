@@ -1,4 +1,5 @@
 // What a body asks, before its payload is looked at: steps 2 to 5 of 01, Commands.
+use packed::Cause;
 use packed::Packed;
 use packed::read_packed;
 use property::Command;
@@ -12,8 +13,8 @@ ghost use mathlib.Core.Path.{_≡_};
 ghost use Rattle.request.specs.Verdict.{commandOf, byProperty, verdict};
 
 pub enum Verdict {
-    // Stopped by 01's step of this number, with this status.
-    Refuse(u8, u8),
+    // Stopped by 01's step of this number, with this status; and the fault of a packed integer, where that stopped it.
+    Refuse(u8, u8, Cause),
     Noop,
     Reset,
     // A command on a property that allows it; the payload starts at this place.
@@ -40,34 +41,37 @@ fn command_of(number: u32) -> Command
 fn by_property(command: Command, number: Packed) -> Verdict
     ensures { λ r. ⌜ r ≡ byProperty command number ⌝ }
 {
-    let Packed::Number(id, start) = number else {
-        return Verdict::Refuse(4, status::PARSE_ERROR);
-    };
-    let found = find(id);
-    let Found::At(row) = found else {
-        return Verdict::Refuse(4, status::PROP_NOT_FOUND);
-    };
-    if allows(row, command) {
-        return Verdict::Reach(command, row, start);
+    match number {
+        Packed::Unreadable(fault) => Verdict::Refuse(4, status::PARSE_ERROR, Cause::Integer(fault)),
+        Packed::Number(id, start) => {
+            let found = find(id);
+            let Found::At(row) = found else {
+                return Verdict::Refuse(4, status::PROP_NOT_FOUND, Cause::None);
+            };
+            if allows(row, command) {
+                return Verdict::Reach(command, row, start);
+            }
+            Verdict::Refuse(5, status::INVALID_COMMAND_FOR_PROP, Cause::None)
+        }
     }
-    Verdict::Refuse(5, status::INVALID_COMMAND_FOR_PROP)
 }
 
 pub fn verdict_of(body: &[u8]) -> Verdict
     ensures { λ r. ⌜ r ≡ verdict (now (body .entry)) ⌝ }
 {
-    let number = read_packed(body, 1);
-    let Packed::Number(command, next) = number else {
-        return Verdict::Refuse(2, status::PARSE_ERROR);
-    };
-    if command == commands::NOOP {
-        return Verdict::Noop;
+    match read_packed(body, 1) {
+        Packed::Unreadable(fault) => Verdict::Refuse(2, status::PARSE_ERROR, Cause::Integer(fault)),
+        Packed::Number(command, next) => {
+            if command == commands::NOOP {
+                return Verdict::Noop;
+            }
+            if command == commands::RESET {
+                return Verdict::Reset;
+            }
+            if commands::VALUE_REMOVE < command {
+                return Verdict::Refuse(2, status::INVALID_COMMAND, Cause::None);
+            }
+            by_property(command_of(command), read_packed(body, next))
+        }
     }
-    if command == commands::RESET {
-        return Verdict::Reset;
-    }
-    if commands::VALUE_REMOVE < command {
-        return Verdict::Refuse(2, status::INVALID_COMMAND);
-    }
-    by_property(command_of(command), read_packed(body, next))
 }

@@ -34,7 +34,7 @@ use Rattle.transactions.proofs.LawsWriting.{sendable-told, sendable-hol
 
 abbrev numberIs : Packed → ℕ
 numberIs (Number n next) = n
-numberIs Unreadable = 0
+numberIs (Unreadable f) = 0
 
 -- ---- what is written, and where nothing is
 

@@ -11,17 +11,17 @@ use Rattle.typestring.specs.declared.kind.Value.{Value}
 use Rattle.typestring.specs.declared.kind.Value.the-variants as value
 use Rattle.typestring.specs.Kind.{kindOf}
 
--- values take octets
-abbrev pub Wide : Value → Type 0
-Wide value.Bool = Unit {0}
-Wide (value.Fixed width) = 0 < width
-Wide value.Packed = Unit {0}
-Wide value.Text = Unit {0}
-Wide value.Counted = Unit {0}
+-- values take octets, and a packed integer is an i
+abbrev pub ValueLetter : ℕ → Value → Type 0
+ValueLetter c value.Bool = Unit {0}
+ValueLetter c (value.Fixed width) = 0 < width
+ValueLetter c value.Packed = c ≡ 105
+ValueLetter c value.Text = Unit {0}
+ValueLetter c value.Counted = Unit {0}
 
 -- D, t and A are one letter each
 abbrev pub LetterOf : ℕ → ItemKind → Type 0
-LetterOf c (kind.Value v) = Wide v
+LetterOf c (kind.Value v) = ValueLetter c v
 LetterOf c kind.Rest = c ≡ 68
 LetterOf c kind.Struct = c ≡ 116
 LetterOf c kind.Array = c ≡ 65
@@ -37,7 +37,7 @@ letter-kind c =
     by-test (eqb c 115) (λ e. rw e (omega arith)) (λ e. rw e (
     by-test (eqb c 76) (λ e. rw e (omega arith)) (λ e. rw e (
     by-test (eqb c 108) (λ e. rw e (omega arith)) (λ e. rw e (
-    by-test (eqb c 105) (λ e. rw e tt) (λ e. rw e (
+    by-test (eqb c 105) (λ e. rw e (eqb-true c 105 e)) (λ e. rw e (
     by-test (eqb c 54) (λ e. rw e (omega arith)) (λ e. rw e (
     by-test (eqb c 69) (λ e. rw e (omega arith)) (λ e. rw e (
     by-test (eqb c 101) (λ e. rw e (omega arith)) (λ e. rw e (

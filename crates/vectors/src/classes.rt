@@ -1,4 +1,5 @@
 // Bodies sorted by their first octets, for a number of links (02, T-02).
+use crate::integers;
 use crate::show;
 use crate::text::MAX_OCTETS;
 use crate::text::after;
@@ -26,6 +27,7 @@ fn tell(class: Class) {
     name(class);
     show::number(b", step ", class.step() as usize);
     show::number(b", status ", class.status() as usize);
+    integers::tell(class.cause());
 }
 
 fn name(class: Class) {
@@ -34,7 +36,7 @@ fn name(class: Class) {
         Class::TooLong => show::text(b" too long"),
         Class::Short => show::text(b" short"),
         Class::BadHeader => show::text(b" bad header"),
-        Class::Stopped(_, _) => show::text(b" stopped"),
+        Class::Stopped(_, _, _) => show::text(b" stopped"),
         Class::Noop => show::text(b" NOOP"),
         Class::Reset => show::text(b" RESET"),
         Class::Reaches => show::text(b" reaches"),

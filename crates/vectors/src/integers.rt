@@ -1,4 +1,4 @@
-// Packed integers.
+// Packed integers, and why octets are none (02, T-07).
 use crate::show;
 use crate::text::MAX_OCTETS;
 use crate::text::front;
@@ -6,6 +6,8 @@ use crate::text::is_number;
 use crate::text::is_octets;
 use crate::text::number;
 use crate::text::octets;
+use packed::Cause;
+use packed::Fault;
 use packed::Packed;
 use packed::read_packed;
 use packed::write_packed;
@@ -56,6 +58,25 @@ fn found(word: &[u8], p: Packed) {
             show::number(word, n as usize);
             show::number(b" up to ", next);
         }
-        Packed::Unreadable => show::pair(word, b"unreadable"),
+        Packed::Unreadable(fault) => {
+            show::pair(word, b"unreadable");
+            why(fault);
+        }
+    }
+}
+
+// The fault of a packed integer, where that is the cause.
+pub fn tell(cause: Cause) {
+    match cause {
+        Cause::None => {}
+        Cause::Integer(fault) => why(fault),
+    }
+}
+
+fn why(fault: Fault) {
+    match fault {
+        Fault::RanOut => show::text(b" (octets ran out)"),
+        Fault::TooLong => show::text(b" (a third octet with its top bit set)"),
+        Fault::NotShortest => show::text(b" (a shorter spelling exists)"),
     }
 }

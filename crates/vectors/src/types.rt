@@ -1,4 +1,5 @@
 // Payloads read under type strings (01, Type strings).
+use crate::integers;
 use crate::show;
 use crate::text::MAX_OCTETS;
 use crate::text::after;
@@ -83,9 +84,10 @@ fn within(types: &[u8], payload: &[u8], list: &mut [u32], room: usize) -> Answer
     read_typed(types, payload, &mut list[0..room])
 }
 
-// Tells the answer's number, and returns how many leaves there are.
+// Tells the answer's number and its cause, and returns how many leaves there are.
 fn answered(answer: Answer) -> usize {
     show::number(b"", answer.number() as usize);
+    integers::tell(answer.cause());
     if let Answer::Leaves(count) = answer {
         show::number(b" with ", count);
         return count;

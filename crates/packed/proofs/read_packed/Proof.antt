@@ -19,7 +19,7 @@ abbrev μ-loop : tie.MeasureT-loop
 
 returns : tie.Need-returns Inv-loop μ-loop
 unfolding packedAt
-returns c = let a = c .before .args in sym (number-none (a .octets .now) (a .at) 3 (c .if1 .taken))
+returns c = let a = c .before .args in sym (number-none (a .octets .now) (a .at) 3 (omega arith) (c .if1 .taken))
 
 shared-slice-read-first : tie.Need-shared-slice-read-first Inv-loop μ-loop
 shared-slice-read-first c = omega arith
@@ -49,7 +49,7 @@ unfolding joined
 returns-3 c =
     let a = c .before .before .before .before .before .before .args in
     let w = c .before .before .loop in
-    rw (number-none (a .octets .now) (w .next) (w .left) (c .if3 .taken)) at (w .inv .0)
+    rw (number-none (a .octets .now) (w .next) (w .left) (omega arith) (c .if3 .taken)) at (w .inv .0)
 
 shared-slice-read-octet : tie.Need-shared-slice-read-octet Inv-loop μ-loop
 shared-slice-read-octet c = omega arith
@@ -76,11 +76,11 @@ module _ (c : tie.After-shared-slice-known2 Inv-loop μ-loop) where
   low-seven : getD (c .before .before .before .before .before .before .before .args .octets .now) (c .before .before .before .loop .next) 0 - 128 < 128
   low-seven = omega (arith, c .shared-slice-known2 .given (c .before .before .before .loop .next))
 
-mul-t17 : tie.Need-mul-t17 Inv-loop μ-loop
-mul-t17 c = omega (arith, room (c .before .before) _ (c .if5 .taken))
+mul-t20 : tie.Need-mul-t20 Inv-loop μ-loop
+mul-t20 c = omega (arith, room (c .before .before) _ (c .if5 .taken))
 
-add-t18 : tie.Need-add-t18 Inv-loop μ-loop
-add-t18 c = omega (arith, room (c .before .before) _ (c .if5 .taken))
+add-t21 : tie.Need-add-t21 Inv-loop μ-loop
+add-t21 c = omega (arith, room (c .before .before) _ (c .if5 .taken))
 
 returns-5 : tie.Need-returns-5 Inv-loop μ-loop
 unfolding joined
@@ -136,8 +136,8 @@ read-packed-spec =
     cast-octet
     add-next-2
     returns-4
-    mul-t17
-    add-t18
+    mul-t20
+    add-t21
     returns-5
     mul-n
     add-n

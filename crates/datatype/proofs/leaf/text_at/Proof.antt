@@ -8,6 +8,7 @@ use borrow.Author.Needs.{needs}
 use borrow.Author.Tests.{lt-ltb, le-ltb}
 use lib.ListN.{length, take, drop}
 use Rattle.utf8.specs.Utf8.{isUtf8}
+use Rattle.packed.specs.declared.Cause.the-variants.{None}
 use Rattle.datatype.specs.declared.leaf.Span.the-variants.{At, Misfit}
 use Rattle.datatype.specs.Leaf.{textAt}
 use Rattle.datatype.proofs.leaf.text_at.Statement.{statement}
@@ -15,7 +16,7 @@ use Rattle.datatype.proofs.leaf.text_at.Tie as tie
 
 -- text that ends with a zero in its part, by whether it is UTF-8
 told : (part : List ℕ) (from size end : ℕ) (good : Bool) → end ≡ from + size → end < length part → good ≡ isUtf8 (take (end - from) (drop from part))
-    → textAt size part from ≡ cond good (At from (end - from) (end + 1)) Misfit
+    → textAt size part from ≡ cond good (At from (end - from) (end + 1)) (Misfit None)
 unfolding textAt
 told part from size end good e h g = let s : end - from ≡ size = omega arith in rw (g, s, ← e, lt-ltb end (length part) h)
 

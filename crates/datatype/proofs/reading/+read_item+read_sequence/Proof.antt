@@ -140,7 +140,7 @@ item-sub-read-sequence-3 : (t : ℕ) → item-lts.Need-sub-read-sequence-3 (item
 item-sub-read-sequence-3 t c =
     let told = c .before .before in
     let a = told .before .before .before .before .before .before .before .args in
-    let w = item-array t (told .before .before) (told .enum-told3 .given .1) in
+    let w = item-array t (told .before .before) (told .enum-told2 .given .1) in
     omega (arith, array-inner (a .types .now) (a .at) (a .depth) (w .0) (w .1) .0)
 
 item-read-sequence-requires-2 : (t : ℕ) → item-lts.Need-read-sequence-requires-2 (item-claims t) (item-at t) item.Post item-inv item-μ
@@ -149,7 +149,7 @@ item-read-sequence-requires-2 t c κs =
     let told = c .before .before .before in
     let start = told .before .before .before .before .before .before .before in
     let room = start .pre .1 .1 in
-    let w = item-array t (told .before .before) (told .enum-told3 .given .1) in
+    let w = item-array t (told .before .before) (told .enum-told2 .given .1) in
     let inner = array-inner (start .args .types .now) (start .args .at) (start .args .depth) (w .0) (w .1) in (
       omega (arith, inner .0, inner .1),
       ((w .0, inner .2), record { few = room .few; placed = inner .1; short = room .short; within = loop .inv .0; counted = omega (arith, loop .inv .1) }),
@@ -157,16 +157,16 @@ item-read-sequence-requires-2 t c κs =
 
 item-returns : (t : ℕ) → item-lts.Need-returns (item-claims t) (item-at t) item.Post item-inv item-μ
 item-returns t c =
-    let looped = c .before .before .before .before .before .before .before in
+    let looped = c .before .before .before .before .before .before .before .before in
     let told = looped .before in
     let a = told .before .before .before .before .before .before .before .args in
-    let element = c .before .before .before .before .read-sequence2 .ensures in
-    let test = c .before .before .before .before .before .before .loop-test .taken in
-    reads-array (a .types .now) (a .at) _ _ _ _ _ _ _ (item-kind t (told .before .before) _ (told .enum-told3 .given .1))
-    (λ u w. looped .loop .inv .3 u w _ _ (element-misfit (a .types .now) _ (a .at) _ _ _ _ _ _ u w test element _ (c .enum-told4 .given .1)))
+    let element = c .before .before .before .before .before .read-sequence2 .ensures in
+    let test = c .before .before .before .before .before .before .before .loop-test .taken in
+    reads-array (a .types .now) (a .at) _ _ _ _ _ _ _ (item-kind t (told .before .before) _ (told .enum-told2 .given .1))
+    (λ u w. looped .loop .inv .3 u w _ _ (element-misfit (a .types .now) _ (a .at) _ _ _ _ _ _ u w test element _ _ (c .before .cause2 .given .1)))
 
 -- an element more
-module _ (t : ℕ) (c : item-lts.After-known-told3 (item-claims t) (item-at t) item.Post item-inv item-μ) where
+module _ (t : ℕ) (c : item-lts.After-known-told5 (item-claims t) (item-at t) item.Post item-inv item-μ) where
   item-turn : let looped = c .before .before .before .before .before .before .before .before in let q = c .before .reached .given .0 .0 in
       let a = looped .before .before .before .before .before .before .before .before .args in
       (looped .loop .next < q) × (q ≤ length (a .part .now)) × (c .before .reached .given .0 .1 .0 ≤ q + a .at)
@@ -174,7 +174,7 @@ module _ (t : ℕ) (c : item-lts.After-known-told3 (item-claims t) (item-at t) i
       let looped = c .before .before .before .before .before .before .before .before in
       let told = looped .before in
       let a = told .before .before .before .before .before .before .before .args in
-      let w = item-array t (told .before .before) (told .enum-told3 .given .1) in
+      let w = item-array t (told .before .before) (told .enum-told2 .given .1) in
       let element = c .before .before .before .before .before .read-sequence2 .ensures in
       let test = c .before .before .before .before .before .before .before .loop-test .taken in
       element-room (a .types .now) _ (a .at) _ _ _ _ _ _ (w .0) (w .1) test element _ _ (c .before .reached .given .1) (looped .loop .inv .1)
@@ -207,10 +207,10 @@ item-returns-2 t c =
 
 item-returns-3 : (t : ℕ) → item-lts.Need-returns-3 (item-claims t) (item-at t) item.Post item-inv item-μ
 item-returns-3 t c =
-    let told = c .before .before .before in
+    let told = c .before .before .before .before in
     let a = told .before .before .before .before .before .before .before .args in
     let of-kind = item-kind t (told .before .before) _ (told .enum-told .given .1) in
-    struct-misfit (a .types .now) (a .at) _ _ _ _ _ _ of-kind (sym (c .before .before .counted-at .ensures) ∙ c .enum-told2 .given .1)
+    struct-misfit (a .types .now) (a .at) _ _ _ _ _ _ of-kind _ (sym (c .before .before .before .counted-at .ensures) ∙ c .before .cause .given .1)
 
 item-returns-4 : (t : ℕ) → item-lts.Need-returns-4 (item-claims t) (item-at t) item.Post item-inv item-μ
 item-returns-4 t c =
@@ -226,7 +226,7 @@ item-returns-5 t c =
     let loop = c .before .loop in
     let told = c .before .before in
     let a = told .before .before .before .before .before .before .before .args in
-    reads-array (a .types .now) (a .at) _ _ _ _ _ _ _ (item-kind t (told .before .before) _ (told .enum-told3 .given .1))
+    reads-array (a .types .now) (a .at) _ _ _ _ _ _ _ (item-kind t (told .before .before) _ (told .enum-told2 .given .1))
     (λ u w. loop .inv .3 u w _ _ (elements-end u _ (loop .next) _ (loop .count) (c .loop-test .left)))
 
 item-returns-6 : (t : ℕ) → item-lts.Need-returns-6 (item-claims t) (item-at t) item.Post item-inv item-μ
@@ -276,12 +276,12 @@ sequence-read-item-requires t c κs = (omega arith, (sequence-item t (c .before)
 
 sequence-returns-2 : (t : ℕ) → sequence-lts.Need-returns-2 (sequence-claims t) (sequence-at t) sequence.Post sequence-inv sequence-μ
 sequence-returns-2 t c = λ u w.
-    let asked = c .before .before .before .before .before .before in
+    let asked = c .before .before .before .before .before .before .before in
     let loop = asked .before .before .loop in
     let types = asked .before .before .before .before .before .before .args .types .now in
     let v = loop .inv .3 u w in
-    let item = c .before .before .before .before .read-item .ensures in
-    v .2 _ _ (turn-misfit types _ (loop .place) _ _ _ _ _ _ (v .0) (v .1) (sequence-going t asked) item _ (c .enum-told .given .1))
+    let item = c .before .before .before .before .before .read-item .ensures in
+    v .2 _ _ (turn-misfit types _ (loop .place) _ _ _ _ _ _ (v .0) (v .1) (sequence-going t asked) item _ _ (c .before .cause .given .1))
 
 sequence-item-end-requires : (t : ℕ) → sequence-lts.Need-item-end-requires (sequence-claims t) (sequence-at t) sequence.Post sequence-inv sequence-μ
 sequence-item-end-requires t c κs = let x = sequence-item t (c .before .before .before .before .before .before .before) in (x .0, _, x .1)

@@ -44,13 +44,13 @@ read-sequence-requires-2 c κs =
 
 returns-3 : tie.Need-returns-3
 returns-3 c =
-    let filled = c .before .before in
+    let filled = c .before .before .before in
     let first = filled .before .before .before in
     let tested = first .before .before in
     let typed = sym (tested .before .before .is-type .ensures) ∙ tested .before .if1 .taken in
     let lent = first .read-sequence .kept .1 .1 .1 .1 .1 .0 in
     let reads = first .read-sequence .ensures in
-    answers-misfit _ _ _ typed (omega arith) _ _ lent _ _ reads (filled .filling .ensures) (c .enum-told .given .1)
+    answers-misfit _ _ _ typed (omega arith) _ _ lent _ _ reads (filled .filling .ensures) _ (c .before .cause .given .1)
 
 returns-4 : tie.Need-returns-4
 returns-4 c =

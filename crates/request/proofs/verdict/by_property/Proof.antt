@@ -11,13 +11,13 @@ by-property-spec =
     (tie.spec
     (λ c. search needs)
     (λ c. search needs)
-    (λ c. rw (c .enum-told .given .1))
     (λ c κs. search needs)
     (λ c. search needs)
     (λ c. search needs)
-    (λ c. let d = c .before .before in rw (d .before .before .number .given .1, ← d .find .ensures .0, c .enum-told2 .given .1))
+    (λ c. let d = c .before .before in rw (d .before .before .number2 .given .1, ← d .find .ensures .0, c .enum-told .given .1))
     (λ c κs. search needs)
     (λ c. let f = c .before .before .before in let d = f .before .before in
-    rw (d .before .before .number .given .1, ← d .find .ensures .0, f .found .given .1, ← c .before .allows .ensures, c .if1 .taken))
+    rw (d .before .before .number2 .given .1, ← d .find .ensures .0, f .found .given .1, ← c .before .allows .ensures, c .if1 .taken))
+    (λ c. rw (c .before .number .given .1))
     (λ c. let f = c .before .before .before in let d = f .before .before in
-    rw (d .before .before .number .given .1, ← d .find .ensures .0, f .found .given .1, ← c .before .allows .ensures, c .if1 .left)))
+    rw (d .before .before .number2 .given .1, ← d .find .ensures .0, f .found .given .1, ← c .before .allows .ensures, c .if1 .left)))

@@ -13,17 +13,17 @@ verdict-of-spec =
     (λ c κs. search needs)
     (λ c. search needs)
     (λ c. search needs)
-    (λ c. rw (← c .before .before .read-packed .ensures, c .enum-told .given .1))
-    (λ c. let d = c .before .before in rw (← d .before .before .read-packed .ensures, d .number .given .1, eq-eqb _ _ (c .if1 .taken)))
+    (λ c. let d = c .before .before in rw (← d .before .before .read-packed .ensures, d .command .given .1, eq-eqb _ _ (c .if1 .taken)))
     (λ c. let d = c .before .before .before in
-    rw (← d .before .before .read-packed .ensures, d .number .given .1, ne-eqb _ _ (c .before .if1 .left), eq-eqb _ _ (c .if2 .taken)))
+    rw (← d .before .before .read-packed .ensures, d .command .given .1, ne-eqb _ _ (c .before .if1 .left), eq-eqb _ _ (c .if2 .taken)))
     (λ c. let d = c .before .before .before .before in
-    rw (← d .before .before .read-packed .ensures, d .number .given .1, ne-eqb _ _ (c .before .before .if1 .left))
+    rw (← d .before .before .read-packed .ensures, d .command .given .1, ne-eqb _ _ (c .before .before .if1 .left))
     (rw (ne-eqb _ _ (c .before .if2 .left), lt-ltb _ _ (c .if3 .taken))))
     (λ c κs. search needs)
     (λ c κs. search needs)
     (λ c κs. search needs)
+    (λ c. let d = c .before in rw (← d .before .before .read-packed .ensures, d .fault .given .1))
     (λ c. let b = c .before .before .before in let d = b .before .before .before .before in
-    rw (← d .before .before .read-packed .ensures, d .number .given .1, ne-eqb _ _ (b .before .before .if1 .left))
+    rw (← d .before .before .read-packed .ensures, d .command .given .1, ne-eqb _ _ (b .before .before .if1 .left))
     (rw (ne-eqb _ _ (b .before .if2 .left), le-ltb _ _ (b .if3 .left))
     (rw (c .by-property .ensures, c .before .read-packed2 .ensures, c .before .before .command-of .ensures)))))
