@@ -2,20 +2,20 @@
 -- last one is 0 and not the first, each exactly when; and a shorter spelling of the same number exists exactly where it is said to.
 use mathlib.Core.List.{List, [], _∷_, append-nil}
 use mathlib.Core.Path.{_≡_, refl}
-use Prim.Native.Nat.{ℕ, zero, suc, _+_, _*_, _-_, _/_, _%_, _^_, _<_, _≤_}
+use Prim.Native.Nat.{ℕ, zero, suc, _+_, _*_, _-_, _/_, _^_, _<_, _≤_}
 use native.Mathlib.Nat.{pow-succ', one-le-pow, pow-le-pow-right, add-zero, zero-add}
 use native.Mathlib.Omega.{arith}
-use borrow.Author.Tests.{ltb-true, ltb-false, leb-true, leb-false, eqb-true, eqb-false, eq-eqb}
+use borrow.Author.Tests.{ltb-true, ltb-false, leb-true, leb-false, eqb-true, eqb-false}
 use lib.Dec.{eqb, ltb, leb}
 use lib.ListN.{length, getD, take, drop, length-drop}
 use lib.Seq.{getD-drop}
-use Rattle.octets.proofs.LawsTests.{by-test, impossible}
+use Rattle.octets.proofs.LawsTests.{by-test}
 use Rattle.packed.specs.Packed.{packed, packedIn, joined, numberIn, packedAt}
-use Rattle.packed.specs.Faults.{Marked, IsZero, RunsOut, no-octet, one-octet, two-octets, GoesOn, EndsInZero, in-second, in-third, sevens, HasShorter}
+use Rattle.packed.specs.Faults.{TopBit, IsZero, RunsOut, no-octet, one-octet, two-octets, GoesOn, EndsInZero, in-second, in-third, sevens, HasShorter}
 use Rattle.packed.specs.declared.Fault.the-variants.{RanOut, TooLong, NotShortest}
 use Rattle.packed.specs.declared.Packed.{Packed}
 use Rattle.packed.specs.declared.Packed.the-variants.{Number, Unreadable}
-use Rattle.packed.proofs.OneSpelling.{octet-alone}
+use Rattle.packed.proofs.OneSpelling.{octet-alone, past-end}
 use Rattle.packed.proofs.ReadsBack.{size-in, packed-size, reads-back}
 use Rattle.packed.proofs.LawsPacked.{packed-last, packed-more, joined-joined, number-none, number-last, number-more}
 
@@ -59,46 +59,42 @@ Told xs at (Unreadable TooLong) = GoesOn xs at
 Told xs at (Unreadable NotShortest) = EndsInZero xs at
 
 module _ (xs : List ℕ) where
-  -- an octet by an octet: there is none, it ends the number, or it has the top bit set
-  by-octet : {P : Type 0} (at : ℕ) → (length xs ≤ at → P) → (at < length xs → getD xs at 0 < 128 → P) → (Marked xs at → P) → P
+  -- what stands at a place: no octet, one that ends the number, or one that has the top bit set
+  by-octet : {P : Type 0} (at : ℕ) → (length xs ≤ at → P) → (at < length xs → getD xs at 0 < 128 → P) → (TopBit xs at → P) → P
   by-octet at none last more =
       by-test (leb (length xs) at) (λ t. none (leb-true (length xs) at t))
       (λ t. by-test (ltb (getD xs at 0) 128) (λ u. last (leb-false (length xs) at t) (ltb-true (getD xs at 0) 128 u))
       (λ u. more (record { there = leb-false (length xs) at t; top = ltb-false (getD xs at 0) 128 u })))
 
   module _ (at : ℕ) where
-    first-more : Marked xs at → packedAt xs at ≡ joined (getD xs at 0 - 128) 128 (numberIn 2 (at + 1) (drop (at + 1) xs))
+    first-more : TopBit xs at → packedAt xs at ≡ joined (getD xs at 0 - 128) 128 (numberIn 2 (at + 1) (drop (at + 1) xs))
     unfolding packedAt
     first-more a = number-more xs at 3 (omega arith) (a .there) (a .top)
 
-    both-more : Marked xs at → Marked xs (at + 1)
+    both-more : TopBit xs at → TopBit xs (at + 1)
         → packedAt xs at ≡ joined (getD xs at 0 - 128 + 128 * (getD xs (at + 1) 0 - 128)) (128 * 128) (numberIn 1 (at + 2) (drop (at + 2) xs))
     both-more a b = let two : at + 1 + 1 ≡ at + 2 = omega arith in
         rw (first-more a, number-more xs (at + 1) 2 (omega arith) (b .there) (b .top), joined-joined, two)
 
     -- ---- what the octets are, and what is then told
 
-    told-none : length xs ≤ at → packedAt xs at ≡ Unreadable RanOut
-    unfolding packedAt
-    told-none h = number-none xs at 3 (omega arith) h
-
-    told-one : length xs ≤ at + 1 → Marked xs at → packedAt xs at ≡ Unreadable RanOut
+    told-one : length xs ≤ at + 1 → TopBit xs at → packedAt xs at ≡ Unreadable RanOut
     unfolding joined
     told-one h a = rw (first-more a, number-none xs (at + 1) 2 (omega arith) h)
 
-    told-two : length xs ≤ at + 2 → Marked xs at → Marked xs (at + 1) → packedAt xs at ≡ Unreadable RanOut
+    told-two : length xs ≤ at + 2 → TopBit xs at → TopBit xs (at + 1) → packedAt xs at ≡ Unreadable RanOut
     unfolding joined
     told-two h a b = rw (both-more a b, number-none xs (at + 2) 1 (omega arith) h)
 
-    told-second : Marked xs at → IsZero xs (at + 1) → packedAt xs at ≡ Unreadable NotShortest
+    told-second : TopBit xs at → IsZero xs (at + 1) → packedAt xs at ≡ Unreadable NotShortest
     unfolding joined
     told-second a z = rw (first-more a, number-last xs (at + 1) 2 (omega arith) (z .there) (omega (arith, z .octet)), z .octet)
 
-    told-third : Marked xs at → Marked xs (at + 1) → IsZero xs (at + 2) → packedAt xs at ≡ Unreadable NotShortest
+    told-third : TopBit xs at → TopBit xs (at + 1) → IsZero xs (at + 2) → packedAt xs at ≡ Unreadable NotShortest
     unfolding joined
     told-third a b z = rw (both-more a b, number-last xs (at + 2) 1 (omega arith) (z .there) (omega (arith, z .octet)), z .octet)
 
-    told-on : Marked xs at → Marked xs (at + 1) → Marked xs (at + 2) → packedAt xs at ≡ Unreadable TooLong
+    told-on : TopBit xs at → TopBit xs (at + 1) → TopBit xs (at + 2) → packedAt xs at ≡ Unreadable TooLong
     unfolding joined numberIn
     told-on a b c = rw (both-more a b, number-more xs (at + 2) 1 (omega arith) (c .there) (c .top))
 
@@ -110,7 +106,7 @@ module _ (xs : List ℕ) where
 
     told : Told xs at (packedAt xs at)
     told =
-        by-octet at (λ h. rw (told-none h) (no-octet h)) (λ h l. rw (octet-alone xs at h l) tt)
+        by-octet at (λ h. rw (past-end xs at h) (no-octet h)) (λ h l. rw (octet-alone xs at h l) tt)
         (λ a. by-octet (at + 1) (λ h. rw (told-one h a) (one-octet (omega (arith, a .there)) a))
         (λ h l. ended _ _ _ _ _ (first-more a) (number-last xs (at + 1) 2 (omega arith) h l) (λ z. in-second a (record { there = h; octet = z })))
         (λ b. by-octet (at + 2) (λ h. rw (told-two h a b) (two-octets (omega (arith, b .there)) a b))
@@ -123,7 +119,7 @@ module _ (xs : List ℕ) where
     ran-out e = rw e at told
 
     pub ran-out-told : RunsOut xs at → packedAt xs at ≡ Unreadable RanOut
-    ran-out-told (no-octet h) = told-none h
+    ran-out-told (no-octet h) = past-end xs at h
     ran-out-told (one-octet h a) = told-one (omega arith) a
     ran-out-told (two-octets h a b) = told-two (omega arith) a b
 
@@ -147,16 +143,16 @@ module _ (xs : List ℕ) where
     by-last more there last =
         rw (getD-drop at xs more 0) at (sevens-last more (drop at xs) (omega (arith, length-drop at xs)) (rw (getD-drop at xs more 0) last))
 
-    ends-shorter : (less : ℕ) → suc less ≤ 2 → ((i : ℕ) → i < suc less → Marked xs (at + i)) → IsZero xs (at + suc less) → HasShorter xs at
+    ends-shorter : (less : ℕ) → suc less ≤ 2 → ((i : ℕ) → i < suc less → TopBit xs (at + i)) → IsZero xs (at + suc less) → HasShorter xs at
     unfolding packed
-    ends-shorter less most marked z =
+    ends-shorter less most tops z =
         let n = sevens (take (suc (suc less)) (drop at xs)) in
         let small : n < 128 ^ suc less = by-last (suc less) (z .there) (omega (arith, z .octet)) .0 (z .octet) in
         let top : 128 ^ suc less ≤ 128 ^ 2 = pow-le-pow-right (omega arith) most in
         record {
           more = suc less;
           most = most;
-          marked = marked;
+          tops = tops;
           there = z .there;
           last = omega (arith, z .octet);
           number = n;
@@ -168,11 +164,11 @@ module _ (xs : List ℕ) where
     pub shorter : packedAt xs at ≡ Unreadable NotShortest → HasShorter xs at
     shorter e = go (not-shortest e)
       where
-        one : Marked xs at → (i : ℕ) → i < 1 → Marked xs (at + i)
+        one : TopBit xs at → (i : ℕ) → i < 1 → TopBit xs (at + i)
         one a zero h = rw (add-zero at) a
         one a (suc i) h = absurd (omega arith)
 
-        two : Marked xs at → Marked xs (at + 1) → (i : ℕ) → i < 2 → Marked xs (at + i)
+        two : TopBit xs at → TopBit xs (at + 1) → (i : ℕ) → i < 2 → TopBit xs (at + i)
         two a b zero h = rw (add-zero at) a
         two a b (suc zero) h = b
         two a b (suc (suc i)) h = absurd (omega arith)
@@ -184,7 +180,7 @@ module _ (xs : List ℕ) where
     -- and where the last octet is not 0 there is none
     pub shorter-told : HasShorter xs at → packedAt xs at ≡ Unreadable NotShortest
     unfolding packed
-    shorter-told s = go (s .more) (omega (arith, s .fewer, packed-size (s .number))) (s .most) (s .marked) last
+    shorter-told s = go (s .more) (omega (arith, s .fewer, packed-size (s .number))) (s .most) (s .tops) last
       where
         last : IsZero xs (at + s .more)
         last =
@@ -193,8 +189,8 @@ module _ (xs : List ℕ) where
             (λ t. let high = rw (s .stands) at (by-last (s .more) (s .there) (s .last) .1 (eqb-false _ _ t)) in
             absurd (omega (arith, s .fewer, many-in (s .more) 2 (s .number) (s .most) high)))
 
-        go : (k : ℕ) → 1 ≤ k → k ≤ 2 → ((i : ℕ) → i < k → Marked xs (at + i)) → IsZero xs (at + k) → packedAt xs at ≡ Unreadable NotShortest
-        go zero some few marked z = absurd (omega arith)
-        go (suc zero) some few marked z = told-second (rw (add-zero at) at (marked 0 (omega arith))) z
-        go (suc (suc zero)) some few marked z = told-third (rw (add-zero at) at (marked 0 (omega arith))) (marked 1 (omega arith)) z
-        go (suc (suc (suc k))) some few marked z = absurd (omega arith)
+        go : (k : ℕ) → 1 ≤ k → k ≤ 2 → ((i : ℕ) → i < k → TopBit xs (at + i)) → IsZero xs (at + k) → packedAt xs at ≡ Unreadable NotShortest
+        go zero some few tops z = absurd (omega arith)
+        go (suc zero) some few tops z = told-second (rw (add-zero at) at (tops 0 (omega arith))) z
+        go (suc (suc zero)) some few tops z = told-third (rw (add-zero at) at (tops 0 (omega arith))) (tops 1 (omega arith)) z
+        go (suc (suc (suc k))) some few tops z = absurd (omega arith)

@@ -7,7 +7,7 @@ use Rattle.packed.specs.Packed.{packed, packedAt}
 use Rattle.packed.specs.declared.Packed.the-variants.{Number}
 
 -- at a place there is an octet that has the top bit set, or one that is 0
-pub record Marked (xs : List ℕ) (at : ℕ) : Type 0 where
+pub record TopBit (xs : List ℕ) (at : ℕ) : Type 0 where
   pub there : at < length xs
   pub top : 128 ≤ getD xs at 0
 
@@ -18,19 +18,19 @@ pub record IsZero (xs : List ℕ) (at : ℕ) : Type 0 where
 -- "the octets ran out (no octet, or one or two that all have the top bit set)"
 pub data RunsOut (xs : List ℕ) (at : ℕ) : Type 0 where
   no-octet : length xs ≤ at → RunsOut xs at
-  one-octet : length xs ≡ at + 1 → Marked xs at → RunsOut xs at
-  two-octets : length xs ≡ at + 2 → Marked xs at → Marked xs (at + 1) → RunsOut xs at
+  one-octet : length xs ≡ at + 1 → TopBit xs at → RunsOut xs at
+  two-octets : length xs ≡ at + 2 → TopBit xs at → TopBit xs (at + 1) → RunsOut xs at
 
 -- "a third octet still had its top bit set"
 pub record GoesOn (xs : List ℕ) (at : ℕ) : Type 0 where
-  pub first : Marked xs at
-  pub second : Marked xs (at + 1)
-  pub third : Marked xs (at + 2)
+  pub first : TopBit xs at
+  pub second : TopBit xs (at + 1)
+  pub third : TopBit xs (at + 2)
 
 -- the last octet is 0, and it is not the first
 pub data EndsInZero (xs : List ℕ) (at : ℕ) : Type 0 where
-  in-second : Marked xs at → IsZero xs (at + 1) → EndsInZero xs at
-  in-third : Marked xs at → Marked xs (at + 1) → IsZero xs (at + 2) → EndsInZero xs at
+  in-second : TopBit xs at → IsZero xs (at + 1) → EndsInZero xs at
+  in-third : TopBit xs at → TopBit xs (at + 1) → IsZero xs (at + 2) → EndsInZero xs at
 
 -- the number that octets stand for: "seven bits an octet, least significant first"
 unfoldable pub sevens : List ℕ → ℕ
@@ -42,7 +42,7 @@ sevens (x ∷ xs) = x % 128 + 128 * sevens xs
 pub record HasShorter (xs : List ℕ) (at : ℕ) : Type 0 where
   pub more : ℕ
   pub most : more ≤ 2
-  pub marked : (i : ℕ) → i < more → Marked xs (at + i)
+  pub tops : (i : ℕ) → i < more → TopBit xs (at + i)
   pub there : at + more < length xs
   pub last : getD xs (at + more) 0 < 128
   pub number : ℕ

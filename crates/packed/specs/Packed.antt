@@ -1,4 +1,4 @@
--- Packed unsigned integers (01, Packed integers; 000, section 3.2).
+-- Packed unsigned integers (01, Packed integers; 000, section 3.2), and why octets are none (02, T-07).
 use Prim.Native.Nat.{ℕ, zero, suc, _+_, _*_, _-_, _/_, _%_}
 use mathlib.Core.Bool.{cond}
 use mathlib.Core.List.{List, [], _∷_}
@@ -20,12 +20,13 @@ maxPacked = 2097151
 unfoldable pub packed : ℕ → List ℕ
 packed n = packedIn 2 n
 
--- `low` and, `scale` times, the number that the octets after it stand for; that is not 0, or a shorter spelling exists
+-- `low` and, `scale` times, the number that the octets after it stand for; if that is 0, "a shorter spelling exists"
 unfoldable pub joined : ℕ → ℕ → Packed → Packed
 joined low scale (Unreadable f) = Unreadable f
 joined low scale (Number n next) = cond (eqb n 0) (Unreadable NotShortest) (Number (low + scale * n) next)
 
--- the number in at most so many octets, which stand from a place on; none where they run out, or where there would be one more
+-- the number in at most so many octets, which stand from a place on; none where there would be one more (of three: "a third octet still had
+-- its top bit set"), or where "the octets ran out"
 unfoldable pub numberIn : ℕ → ℕ → List ℕ → Packed
 numberIn zero at xs = Unreadable TooLong
 numberIn (suc most) at [] = Unreadable RanOut
