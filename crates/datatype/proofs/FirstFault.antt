@@ -9,9 +9,9 @@ use borrow.Author.Tests.{ltb-true, ltb-false, le-ltb}
 use lib.Dec.{eqb, ltb, leb}
 use lib.ListN.{length, getD, take, drop}
 use lib.Seq.{length-take-le, take-take, take-length}
-use Rattle.octets.proofs.LawsTests.{by-test, chosen, impossible}
 use Rattle.octets.specs.Finding.{before}
 use Rattle.octets.specs.LittleEndian.{leAt}
+use Rattle.octets.proofs.LawsTests.{by-test, chosen, impossible}
 use Rattle.utf8.specs.Utf8.{isUtf8}
 use Rattle.packed.specs.Packed.{packedAt}
 use Rattle.packed.specs.declared.Cause.{Cause}
@@ -19,23 +19,22 @@ use Rattle.packed.specs.declared.Cause.the-variants.{None, Integer}
 use Rattle.packed.specs.declared.Fault.{Fault}
 use Rattle.packed.specs.declared.Packed.{Packed}
 use Rattle.packed.specs.declared.Packed.the-variants as packed
-use Rattle.typestring.specs.declared.kind.Value.{Value}
+use Rattle.typestring.specs.declared.kind.ItemKind.the-variants as kind
 use Rattle.typestring.specs.declared.kind.Value.the-variants as value
 use Rattle.typestring.specs.Grammar.{Item, Items, value, rest, struct, array, end, more, Some, ItemRules, PartRules, TypeString, maxOpen}
 use Rattle.typestring.specs.Parse.{Parsed, malformed, parsed, typeOf}
-use Rattle.typestring.specs.declared.kind.ItemKind.the-variants as kind
 use Rattle.typestring.proofs.Grammatical.{sound}
 use Rattle.typestring.proofs.LawsKinds.{letter-of}
 use Rattle.datatype.specs.declared.leaf.Span.{Span}
 use Rattle.datatype.specs.declared.leaf.Span.the-variants.{At, Misfit}
 use Rattle.datatype.specs.Leaf.{fixedAt, boolAt, numberSpan, textAt, countedAt, spanOf, restOf}
 use Rattle.datatype.specs.Reading.{Leaf, Reading, misfit, upto, prefixed, andThen, filling, leafReads, contents, elements, itemReads, partReads}
+use Rattle.datatype.specs.Answer.{refused, listed, payloadReads, result}
+use Rattle.datatype.specs.Reached.{Fit, none, one-more, Reached, here, behind, in-struct, in-array, IntegerFault}
 use Rattle.datatype.proofs.ByGrammar.{by-tree}
 use Rattle.datatype.proofs.LawsLeaves.{counted-fits}
 use Rattle.datatype.proofs.LawsTook.{element-took, item-took}
 use Rattle.datatype.proofs.LawsReading.{elements-more}
-use Rattle.datatype.specs.Answer.{refused, listed, payloadReads, result}
-use Rattle.datatype.specs.Reached.{Fit, none, one-more, Reached, here, behind, in-struct, in-array, IntegerFault}
 
 -- an integer at a place of a part has a fault, and everything before it fits
 abbrev Found : Items → List ℕ → ℕ → Fault → Type 0
