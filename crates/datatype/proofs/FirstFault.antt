@@ -1,5 +1,5 @@
--- PROMISE: the cause is that of the first fault from the left. It is an integer's fault exactly when the payload has at most 1,300 octets and
--- everything up to an i fits that has this fault in its part; and then the answer is 16.
+-- PROMISE: the cause is that of the first fault from the left. It is an integer's fault exactly when the string is one of the grammar's, the
+-- payload has at most 1,300 octets and everything up to an i fits that has this fault in its part; and then the answer is 16.
 use mathlib.Core.Bool.{Bool, true, false}
 use mathlib.Core.List.{List}
 use mathlib.Core.Path.{_≡_, refl, sym, _∙_}

@@ -44,7 +44,7 @@ abbrev pub answerTo : List ℕ → List ℕ → List ℕ → Result
 answerTo types payload list = result (typeOf types) payload (length list)
 
 -- 01's number of an answer and its count of leaves: "answer 0 on success, this one with the number of leaves"; refusals "return zero
--- for every count"
+-- for every count"; and the cause
 pub record Report : Type 0 where
   pub number : ℕ
   pub count : ℕ

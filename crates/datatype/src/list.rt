@@ -9,7 +9,7 @@ ghost use Rattle.datatype.specs.Answer.{maxPayload};
 ghost use Rattle.datatype.specs.Reading.{leafReads};
 ghost use Rattle.datatype.specs.Calls.{Small, Did};
 
-// What reading has come to: the payload does not fit, or the place reached in it and the number of leaves so far.
+// What reading has come to: the payload does not fit, with the cause, or the place reached in it and the number of leaves so far.
 pub enum Read {
     Misfit(Cause),
     Upto(usize, usize),

@@ -1,4 +1,5 @@
--- Why octets are no packed integer (02, T-07), told by the octets from a place on, without a reader.
+-- Why octets are no packed integer (02, T-07): the three faults by the octets from a place on, without a reader; and that a shorter spelling
+-- exists, by what is written and read.
 use mathlib.Core.List.{List, [], _∷_}
 use mathlib.Core.Path.{_≡_}
 use Prim.Native.Nat.{ℕ, suc, _+_, _*_, _%_, _<_, _≤_}
@@ -32,7 +33,7 @@ pub data EndsInZero (xs : List ℕ) (at : ℕ) : Type 0 where
   in-second : TopBit xs at → IsZero xs (at + 1) → EndsInZero xs at
   in-third : TopBit xs at → TopBit xs (at + 1) → IsZero xs (at + 2) → EndsInZero xs at
 
--- the number that octets stand for: "seven bits an octet, least significant first"
+-- the number that octets stand for: "Seven bits an octet, least significant first"
 unfoldable pub sevens : List ℕ → ℕ
 sevens [] = 0
 sevens (x ∷ xs) = x % 128 + 128 * sevens xs
