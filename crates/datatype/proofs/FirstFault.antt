@@ -2,7 +2,7 @@
 -- payload has at most 1,300 octets and everything up to an i fits that has this fault in its part; and then the answer is 16.
 use mathlib.Core.Bool.{Bool, true, false}
 use mathlib.Core.List.{List}
-use mathlib.Core.Path.{_≡_, refl, sym, _∙_}
+use mathlib.Core.Path.{_≡_, refl, sym, ap, _∙_}
 use Prim.Native.Nat.{ℕ, zero, suc, _+_, _-_, _*_, _≤_, _<_}
 use native.Mathlib.Omega.{arith}
 use borrow.Author.Tests.{ltb-true, ltb-false, le-ltb}
@@ -27,14 +27,14 @@ use Rattle.typestring.proofs.Grammatical.{sound}
 use Rattle.typestring.proofs.LawsKinds.{letter-of}
 use Rattle.datatype.specs.declared.leaf.Span.{Span}
 use Rattle.datatype.specs.declared.leaf.Span.the-variants.{At, Misfit}
+use Rattle.datatype.specs.declared.reading.Answer.the-variants as answer
 use Rattle.datatype.specs.Leaf.{fixedAt, boolAt, numberSpan, textAt, countedAt, spanOf, restOf}
 use Rattle.datatype.specs.Reading.{Leaf, Reading, misfit, upto, prefixed, andThen, filling, leafReads, contents, elements, itemReads, partReads}
-use Rattle.datatype.specs.Answer.{refused, listed, payloadReads, result}
-use Rattle.datatype.specs.Reached.{Fit, none, one-more, Reached, here, behind, in-struct, in-array, IntegerFault}
+use Rattle.datatype.specs.Answer.{Result, refused, leaves, listed, payloadReads, result, answerTo, reported, reportOf}
+use Rattle.datatype.specs.Reached.{Fit, fit-none, fit-more, Reached, here, behind, in-struct, in-array, IntegerFault}
 use Rattle.datatype.proofs.ByGrammar.{by-tree}
 use Rattle.datatype.proofs.LawsLeaves.{counted-fits}
-use Rattle.datatype.proofs.LawsTook.{element-took, item-took}
-use Rattle.datatype.proofs.LawsReading.{elements-more}
+use Rattle.datatype.proofs.LawsTook.{item-took, array-more}
 
 -- an integer at a place of a part has a fault, and everything before it fits
 abbrev Found : Items → List ℕ → ℕ → Fault → Type 0
@@ -113,8 +113,8 @@ element-found t part (suc n) from f e =
     by-test (ltb from (length part))
     (λ h. let here = ltb-true from (length part) h in
     first-of (partReads t part from) (λ p. elements n (λ q. partReads t part q) p (length part)) (Integer f) (rw h at e)
-    (λ this. (from, none, here, this))
-    (λ p ls this later. let w = element-found t part n p f later in (w .0, one-more here this (w .1), w .2, w .3)))
+    (λ this. (from, fit-none, here, this))
+    (λ p ls this later. let w = element-found t part n p f later in (w .0, fit-more here this (w .1), w .2, w .3)))
     (λ h. impossible (cc (rw h at e)))
 
 mutual
@@ -145,31 +145,30 @@ mutual
 -- ---- an integer's fault is the cause
 
 leaf-told : (c : ℕ) (part : List ℕ) (from : ℕ) (f : Fault) → packedAt part from ≡ packed.Unreadable f
-    → leafReads c (spanOf value.Packed part from) ≡ misfit (Integer f)
-unfolding leafReads spanOf numberSpan
+    → itemReads (value c value.Packed) part from ≡ misfit (Integer f)
+unfolding itemReads leafReads spanOf numberSpan
 leaf-told c part from f e = rw e
+
+struct-told : (u : Items) (part : List ℕ) (from start size next : ℕ) (w : Cause) → countedAt part from ≡ At start size next
+    → partReads u (take next part) start ≡ misfit w → itemReads (struct u) part from ≡ misfit w
+unfolding itemReads contents filling
+struct-told u part from start size next w counted e = rw (counted, e)
 
 -- elements that fit are passed over
 passed : (u : Items) (left : ℕ) (part : List ℕ) (from q : ℕ) (w : Cause) → PartRules u left true → Some u → Fit u part from q → q < length part
-    → partReads u part q ≡ misfit w → elements (length part - from) (λ p. partReads u part p) from (length part) ≡ misfit w
+    → partReads u part q ≡ misfit w → itemReads (array u) part from ≡ misfit w
 unfolding andThen prefixed
-passed u left part from q w rules some fit h e = go fit h e
-  where
-    moves : (a b : ℕ) (ms : List Leaf) → a ≤ length part → partReads u part a ≡ upto b ms → (a < b) × (b ≤ length part)
-    moves a b ms there f = let g = element-took u left part a b ms rules some there f in (omega (arith, g .onward), g .within)
-
-    go : {from q : ℕ} → Fit u part from q → q < length part → partReads u part q ≡ misfit w
-        → elements (length part - from) (λ p. partReads u part p) from (length part) ≡ misfit w
-    go {from = from} none h e = rw (elements-more (λ p. partReads u part p) (length part) moves from h, e)
-    go {from = from} (one-more there f fit) h e = rw (elements-more (λ p. partReads u part p) (length part) moves from there, f, go fit h e)
+passed u left part from q w rules some fit-none h e = rw (array-more u left part from rules some h, e)
+passed u left part from q w rules some (fit-more {p = p} there f fit) h e =
+    rw (array-more u left part from rules some there, f, passed u left part p q w rules some fit h e)
 
 reached-told : (c : ℕ) (inner : List ℕ) (place : ℕ) (t : Items) (left : ℕ) (a : Bool) (part : List ℕ) (from : ℕ) (f : Fault) → PartRules t left a
     → packedAt inner place ≡ packed.Unreadable f → Reached (value c value.Packed) inner place t part from → partReads t part from ≡ misfit (Integer f)
-unfolding PartRules ItemRules itemReads andThen prefixed contents filling
+unfolding PartRules ItemRules partReads andThen prefixed
 reached-told c inner place t left a part from f k e here = rw (leaf-told c inner place f e)
 reached-told c inner place t left a part from f k e (behind {t = u} {p = p} this r) = rw (this, reached-told c inner place u left a part p f (k .2) e r)
 reached-told c inner place t left a part from f k e (in-struct {u = u} {start = start} {next = next} counted r) =
-    rw (counted, reached-told c inner place u (left - 1) false (take next part) start f (k .0 .2) e r)
+    rw (struct-told u part from _ _ _ (Integer f) counted (reached-told c inner place u (left - 1) false (take next part) start f (k .0 .2) e r))
 reached-told c inner place t left a part from f k e (in-array {u = u} {q = q} fit h r) =
     rw (passed u (left - 1) part from q (Integer f) (k .0 .3) (k .0 .2) fit h (reached-told c inner place u (left - 1) true part q f (k .0 .3) e r))
 
@@ -232,10 +231,10 @@ tree-fault t payload f rules e =
       fault = rw (s .is) at (w .4);
     }
 
-pub integer-fault : (types payload : List ℕ) (room n : ℕ) (f : Fault) → result (typeOf types) payload room ≡ refused n (Integer f)
+result-fault : (types payload : List ℕ) (room n : ℕ) (f : Fault) → result (typeOf types) payload room ≡ refused n (Integer f)
     → (n ≡ 16) × (length payload ≤ 1300) × ((t : Items) × TypeString types t × IntegerFault t payload f)
 unfolding result
-integer-fault types payload room n f e = go (typeOf types) (sound types) e
+result-fault types payload room n f e = go (typeOf types) (sound types) e
   where
     go : (p : Parsed) → ((t : Items) (s : List ℕ) → p ≡ parsed t s → TypeString types t) → result p payload room ≡ refused n (Integer f)
         → (n ≡ 16) × (length payload ≤ 1300) × ((t : Items) × TypeString types t × IntegerFault t payload f)
@@ -245,9 +244,25 @@ integer-fault types payload room n f e = go (typeOf types) (sound types) e
         (λ short. let w = listed-cause room (payloadReads t payload) n f (rw short at e) in
         (w .0, ltb-false 1300 (length payload) short, (t, typed t s refl, tree-fault t payload f (typed t s refl .rules) (w .1))))
 
-pub integer-told : (types payload : List ℕ) (room : ℕ) (t : Items) (f : Fault) → TypeString types t → length payload ≤ 1300 → IntegerFault t payload f
-    → result (typeOf types) payload room ≡ refused 16 (Integer f)
-unfolding filling listed
-integer-told types payload room t f w short i =
-    rw (by-tree types payload room t w, le-ltb 1300 (length payload) short)
+report-cause : (r : Result) (f : Fault) → reportOf r .cause ≡ Integer f → (n : ℕ) × (r ≡ refused n (Integer f)) × (reportOf r .number ≡ n)
+unfolding reportOf
+report-cause (refused n w) f e = (n, ap (refused n) e, refl)
+report-cause (leaves ls) f e = impossible cc
+
+pub integer-fault : (types payload list : List ℕ) (f : Fault) → reportOf (answerTo types payload list) .cause ≡ Integer f
+    → (reportOf (answerTo types payload list) .number ≡ 16) × (length payload ≤ 1300) × ((t : Items) × TypeString types t × IntegerFault t payload f)
+integer-fault types payload list f e =
+    let w = report-cause (answerTo types payload list) f e in
+    let v = result-fault types payload (length list) (w .0) f (w .1) in
+    (w .2 ∙ v .0, v .1, v .2)
+
+pub integer-told : (types payload list : List ℕ) (t : Items) (f : Fault) → TypeString types t → length payload ≤ 1300 → IntegerFault t payload f
+    → reportOf (answerTo types payload list) ≡ record { number = 16; count = 0; cause = Integer f }
+unfolding filling listed reportOf
+integer-told types payload list t f w short i =
+    rw (by-tree types payload (length list) t w, le-ltb 1300 (length payload) short)
     (rw (reached-told 105 (take (i .stop) payload) (i .place) t maxOpen false payload 0 f (w .rules) (i .fault) (i .reached)))
+
+-- and what is reported as the cause is the item that the answer holds
+pub misfit-reported : (w : Cause) → reported (answer.Misfit w) ≡ record { number = 16; count = 0; cause = w }
+misfit-reported w = refl

@@ -29,8 +29,8 @@ use Rattle.datatype.specs.Leaf.{spanOf, countedAt, restOf}
 use Rattle.datatype.specs.Reading.{Leaf, upto, andThen, leafReads, contents, itemReads, partReads}
 use Rattle.datatype.specs.Calls.{Room, Small, Did, fillingTo, ReadsPart, ReadsItem}
 use Rattle.datatype.proofs.LawsLeaves.{span-fits, counted-fits}
-use Rattle.datatype.proofs.LawsTook.{Took, element-took, item-took}
-use Rattle.datatype.proofs.LawsReading.{elements-more, elements-done}
+use Rattle.datatype.proofs.LawsTook.{Took, element-took, item-took, array-more}
+use Rattle.datatype.proofs.LawsReading.{elements-done}
 use Rattle.datatype.proofs.LawsDid.{Finishes, did-upto, did-none, did-then, did-not, did-filling}
 
 -- ---- an item by the kind of its letter
@@ -114,13 +114,6 @@ module _ (types : List ℕ) (at depth : ℕ) (t : Items) (w : ItemFrom (drop at 
   array-took : (p : ℕ) (ls : List Leaf) → from ≤ length part → partReads t part from ≡ upto p ls → Took part from p ls 1 1
   array-took p ls = let inner = array-inner types at depth t w in element-took t (depth - 1) part from p ls (inner .3) (inner .4)
 
-array-more : (types : List ℕ) (at depth : ℕ) (t : Items) → ItemFrom (drop at types) depth (array t) → (part : List ℕ) (from : ℕ) → from < length part
-    → itemReads (array t) part from ≡ andThen (partReads t part from) (λ p. itemReads (array t) part p)
-unfolding itemReads
-array-more types at depth t w part from h =
-    elements-more (λ p. partReads t part p) (length part)
-    (λ q r ms room e. let g = array-took types at depth t w part q r ms room e in (omega (arith, g .onward), g .within)) from h
-
 array-done : (t : Items) (part : List ℕ) (from : ℕ) → length part ≤ from → itemReads (array t) part from ≡ upto from []
 unfolding itemReads
 array-done t part from h = elements-done (λ p. partReads t part p) (length part - from) from (length part) h
@@ -131,12 +124,15 @@ array-at types at depth (i, w) e = let s = is-array types at depth i w e in (s .
 
 module _ (types part : List ℕ) (at depth next count : ℕ) (l l₁ : List ℕ) (r₁ : Read) (t : Items) (w : ItemFrom (drop at types) depth (array t))
     (more-left : next < length part) (element : ReadsPart (drop (at + 2) types) (depth - 1) part next l l₁ count r₁) where
+  more-is : itemReads (array t) part next ≡ andThen (partReads t part next) (λ p. itemReads (array t) part p)
+  more-is = let inner = array-inner types at depth t w in array-more t (depth - 1) part next (inner .3) (inner .4) more-left
+
   this : Did (partReads t part next) l l₁ count r₁
   this = element t (array-inner types at depth t w .2)
 
   pub element-misfit : (l₂ : List ℕ) (v : Cause) → r₁ ≡ read.Misfit v → Did (itemReads (array t) part next) l l₂ count (read.Misfit v)
   element-misfit l₂ v e =
-      rw (array-more types at depth t w part next more-left)
+      rw more-is
       (did-not (partReads t part next) (λ p. itemReads (array t) part p) l l₁ l₂ count v (rw e at this))
 
   module _ (q n : ℕ) (e : r₁ ≡ read.Upto q n) where
@@ -148,7 +144,7 @@ module _ (types part : List ℕ) (at depth next count : ℕ) (l l₁ : List ℕ)
 
     pub element-on : Finishes (itemReads (array t) part next) l count (itemReads (array t) part q) l₁ n
     element-on r l₂ d =
-        rw (array-more types at depth t w part next more-left)
+        rw more-is
         (did-then (partReads t part next) (λ p. itemReads (array t) part p) l l₁ l₂ count q n r (rw e at this) d)
 
 pub elements-end : (t : Items) (part : List ℕ) (from : ℕ) (l : List ℕ) (k : ℕ) → length part ≤ from

@@ -13,7 +13,7 @@ use Rattle.typestring.specs.Grammar.{Item, Items, value, rest, struct, array, e
 use Rattle.datatype.specs.Leaf.{spanOf, countedAt, restOf}
 use Rattle.datatype.proofs.LawsLeaves.{span-fits, counted-fits}
 use Rattle.datatype.specs.Reading.{Leaf, InOrder, Reading, upto, andThen, elements, itemReads, partReads}
-use Rattle.datatype.proofs.LawsReading.{both-fit, leaf-fit, one-leaf, contents-fit}
+use Rattle.datatype.proofs.LawsReading.{both-fit, leaf-fit, one-leaf, contents-fit, elements-more}
 
 -- the least octets that an item takes, and how many leaves it may have on them; further ones take an octet each
 abbrev least : Item → ℕ
@@ -170,6 +170,14 @@ pub element-took : (t : Items) (left : ℕ) (part : List ℕ) (from p : ℕ) (ls
     → partReads t part from ≡ upto p ls → Took part from p ls 1 1
 element-took t left part from p ls rules some room e =
     loosen (took-part t left true part from p ls rules room e) (some-least t left rules some) (omega (arith, no-spares t left rules))
+
+-- so an A is an element and then the A, as long as an octet is left
+pub array-more : (t : Items) (left : ℕ) (part : List ℕ) (from : ℕ) → PartRules t left true → Some t → from < length part
+    → itemReads (array t) part from ≡ andThen (partReads t part from) (λ p. itemReads (array t) part p)
+unfolding itemReads
+array-more t left part from rules some h =
+    elements-more (λ p. partReads t part p) (length part)
+    (λ q r ms room e. let g = element-took t left part q r ms rules some room e in (omega (arith, g .onward), g .within)) from h
 
 -- an item has at most one leaf more than octets, and so has a part
 pub item-took : (i : Item) (left : ℕ) (a : Bool) (part : List ℕ) (from p : ℕ) (ls : List Leaf) → ItemRules i left a → from ≤ length part

@@ -14,8 +14,8 @@ use Rattle.datatype.specs.Reading.{Leaf, upto, itemReads, partReads}
 
 -- elements of an A fit one behind the other, from a place up to another
 pub data Fit (t : Items) (part : List ℕ) : ℕ → ℕ → Type 0 where
-  none : {from : ℕ} → Fit t part from from
-  one-more : {from p q : ℕ} {ls : List Leaf} → from < length part → partReads t part from ≡ upto p ls → Fit t part p q → Fit t part from q
+  fit-none : {from : ℕ} → Fit t part from from
+  fit-more : {from p q : ℕ} {ls : List Leaf} → from < length part → partReads t part from ≡ upto p ls → Fit t part p q → Fit t part from q
 
 -- an item stands at a place of a part, among the items that read a part from a place on
 pub data Reached (x : Item) (inner : List ℕ) (place : ℕ) : Items → List ℕ → ℕ → Type 0 where

@@ -60,6 +60,10 @@ pub data Means (d : Device) (b : List ℕ) : Class → Report → Type 0 where
       → Told b (verdict.Reach c r start) → engine d b ≡ goesOn d b c r start
       → Means d b Reaches (atStep 6 0 None)
 
+-- what is reported of a step
+pub step-report : (n s : ℕ) (w : Cause) → atStep n s w ≡ record { number = 0; step = n; status = s; cause = w }
+step-report n s w = refl
+
 module _ (d : Device) (b : List ℕ) where
   judged-as : (w : Verdict) → verdictOf b ≡ w → judged (viewOf (linkOf b) d) b ≡ judgedBy (viewOf (linkOf b) d) b w
   unfolding judged

@@ -11,6 +11,7 @@ use Rattle.octets.specs.Body.{Body, headerOf, SpinelBody}
 use Rattle.octets.specs.Ranges.{isBetween}
 use Rattle.octets.proofs.LawsTests.{chosen}
 use Rattle.octets.proofs.LawsRanges.{inside-told}
+use Rattle.packed.specs.declared.Cause.the-variants.{None}
 use Rattle.request.specs.Verdict.{verdict as verdictOf}
 use Rattle.request.specs.declared.verdict.Verdict.{Verdict}
 use Rattle.request.specs.declared.verdict.Verdict.the-variants.{Refuse, Noop, Reset, Reach}
@@ -18,6 +19,10 @@ use Rattle.engine.specs.Engine.{linkOf}
 use Rattle.diagnosis.specs.Classes.{refused, reported, verdictClass, linkClass, headClass, classOf}
 use Rattle.diagnosis.proofs.LawsClasses.{bad-links, over-long, under-two, by-head}
 use Rattle.diagnosis.proofs.SevenOctets.{seven-class}
+
+-- what is reported of a refusal or a fate, and nothing else
+pub refused-report : (n : ℕ) → refused n ≡ record { number = n; step = 0; status = 0; cause = None }
+refused-report n = refl
 
 pub refusal-14 : (links : ℕ) (b : List ℕ) → isBetween 1 4 links ≡ false → reported (classOf links b) ≡ refused 14
 refusal-14 links b h = ap reported (bad-links links b h)

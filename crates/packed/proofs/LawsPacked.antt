@@ -26,6 +26,12 @@ pub packed-more : (k n : ℕ) → 128 ≤ n → packedIn (suc k) n ≡ (n % 128 
 unfolding packedIn
 packed-more k n h = rw (le-ltb n 128 h)
 
+pub size-in : (k n : ℕ) → (1 ≤ length (packedIn k n)) × (length (packedIn k n) ≤ suc k)
+unfolding packedIn
+size-in zero n = omega arith
+size-in (suc k) n =
+    by-test (ltb n 128) (λ e. simp e (omega arith)) (λ e. let rest = size-in k (n / 128) in simp e (omega arith))
+
 -- room for one octet more changes nothing where the number fits
 pub packed-room : (k n : ℕ) → n < 128 ^ suc k → packedIn k n ≡ packedIn (suc k) n
 packed-room zero n h = rw (packed-last 0 n h, packed-last 1 n h)

@@ -14,13 +14,7 @@ use Rattle.octets.proofs.LawsLists.{octets-more}
 use Rattle.octets.proofs.LawsTests.{by-test}
 use Rattle.packed.specs.Packed.{packed, packedIn, joined, numberIn, packedAt, maxPacked}
 use Rattle.packed.specs.declared.Packed.the-variants.{Number}
-use Rattle.packed.proofs.LawsPacked.{packed-last, packed-more}
-
-pub size-in : (k n : ℕ) → (1 ≤ length (packedIn k n)) × (length (packedIn k n) ≤ suc k)
-unfolding packedIn
-size-in zero n = omega arith
-size-in (suc k) n =
-    by-test (ltb n 128) (λ e. simp e (omega arith)) (λ e. let rest = size-in k (n / 128) in simp e (omega arith))
+use Rattle.packed.proofs.LawsPacked.{size-in, packed-last, packed-more}
 
 pub packed-size : (n : ℕ) → (1 ≤ length (packed n)) × (length (packed n) ≤ 3)
 unfolding packed

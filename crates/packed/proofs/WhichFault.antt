@@ -10,14 +10,14 @@ use lib.Dec.{eqb, ltb, leb}
 use lib.ListN.{length, getD, take, drop, length-drop}
 use lib.Seq.{getD-drop}
 use Rattle.octets.proofs.LawsTests.{by-test}
-use Rattle.packed.specs.Packed.{packed, packedIn, joined, numberIn, packedAt}
-use Rattle.packed.specs.Faults.{TopBit, IsZero, RunsOut, no-octet, one-octet, two-octets, GoesOn, EndsInZero, in-second, in-third, sevens, HasShorter}
-use Rattle.packed.specs.declared.Fault.the-variants.{RanOut, TooLong, NotShortest}
+use Rattle.packed.specs.Packed.{packed, packedIn, joined, numberIn, packedAt, maxPacked}
+use Rattle.packed.specs.Faults.{TopBit, IsZero, RunsOut, no-octet, only-one, only-two, GoesOn, EndsInZero, in-second, in-third, sevens, HasShorter}
+use Rattle.packed.specs.declared.Fault.the-variants as fault
 use Rattle.packed.specs.declared.Packed.{Packed}
 use Rattle.packed.specs.declared.Packed.the-variants.{Number, Unreadable}
 use Rattle.packed.proofs.OneSpelling.{octet-alone, past-end}
-use Rattle.packed.proofs.ReadsBack.{size-in, packed-size, reads-back}
-use Rattle.packed.proofs.LawsPacked.{packed-last, packed-more, joined-joined, number-none, number-last, number-more}
+use Rattle.packed.proofs.ReadsBack.{packed-size, reads-back}
+use Rattle.packed.proofs.LawsPacked.{size-in, packed-last, packed-more, joined-joined, number-none, number-last, number-more}
 
 -- ---- how many octets a number takes
 
@@ -42,21 +42,30 @@ sevens-last : (more : ℕ) (ys : List ℕ) → more < length ys → getD ys more
     → (getD ys more 0 ≡ 0 → sevens (take (suc more) ys) < 128 ^ more) × ((getD ys more 0 ≡ 0 → ⊥) → 128 ^ more ≤ sevens (take (suc more) ys))
 unfolding sevens
 sevens-last more [] h l = absurd (omega arith)
-sevens-last zero (y ∷ ys) h l = (λ z. omega arith, λ some. omega (arith, one-of y some))
-  where
-    one-of : (y : ℕ) → (y ≡ 0 → ⊥) → 1 ≤ y
-    one-of zero some = absurd (some refl)
-    one-of (suc y) some = omega arith
+sevens-last zero (y ∷ ys) h l = (λ z. omega arith, λ some. omega (arith, some))
 sevens-last (suc more) (y ∷ ys) h l =
     let rest = sevens-last more ys (omega arith) l in
     rw (pow-succ' 128 more) (λ z. omega (arith, rest .0 z), λ some. omega (arith, rest .1 some))
 
+-- what is written for a number stands for it
+sevens-in : (k n : ℕ) → n < 128 ^ suc k → sevens (packedIn k n) ≡ n
+unfolding sevens
+sevens-in zero n h = rw (packed-last 0 n h) (omega arith)
+sevens-in (suc k) n h =
+    by-test (ltb n 128) (λ t. let last = ltb-true n 128 t in rw (packed-last (suc k) n last) (omega arith))
+    (λ t. let less : n < 128 * 128 ^ suc k = rw (pow-succ' 128 (suc k)) at h in
+    rw (packed-more k n (ltb-false n 128 t)) (omega (arith, sevens-in k (n / 128) (omega arith))))
+
+pub sevens-packed : (n : ℕ) → n ≤ maxPacked → sevens (packed n) ≡ n
+unfolding packed
+sevens-packed n most = sevens-in 2 n (omega arith)
+
 -- what an answer says of the octets
 abbrev Told : List ℕ → ℕ → Packed → Type 0
 Told xs at (Number n next) = Unit {0}
-Told xs at (Unreadable RanOut) = RunsOut xs at
-Told xs at (Unreadable TooLong) = GoesOn xs at
-Told xs at (Unreadable NotShortest) = EndsInZero xs at
+Told xs at (Unreadable fault.RanOut) = RunsOut xs at
+Told xs at (Unreadable fault.GoesOn) = GoesOn xs at
+Told xs at (Unreadable fault.NotShortest) = EndsInZero xs at
 
 module _ (xs : List ℕ) where
   -- what stands at a place: no octet, one that ends the number, or one that has the top bit set
@@ -78,23 +87,23 @@ module _ (xs : List ℕ) where
 
     -- ---- what the octets are, and what is then told
 
-    told-one : length xs ≤ at + 1 → TopBit xs at → packedAt xs at ≡ Unreadable RanOut
+    told-one : length xs ≤ at + 1 → TopBit xs at → packedAt xs at ≡ Unreadable fault.RanOut
     unfolding joined
     told-one h a = rw (first-more a, number-none xs (at + 1) 2 (omega arith) h)
 
-    told-two : length xs ≤ at + 2 → TopBit xs at → TopBit xs (at + 1) → packedAt xs at ≡ Unreadable RanOut
+    told-two : length xs ≤ at + 2 → TopBit xs at → TopBit xs (at + 1) → packedAt xs at ≡ Unreadable fault.RanOut
     unfolding joined
     told-two h a b = rw (both-more a b, number-none xs (at + 2) 1 (omega arith) h)
 
-    told-second : TopBit xs at → IsZero xs (at + 1) → packedAt xs at ≡ Unreadable NotShortest
+    told-second : TopBit xs at → IsZero xs (at + 1) → packedAt xs at ≡ Unreadable fault.NotShortest
     unfolding joined
     told-second a z = rw (first-more a, number-last xs (at + 1) 2 (omega arith) (z .there) (omega (arith, z .octet)), z .octet)
 
-    told-third : TopBit xs at → TopBit xs (at + 1) → IsZero xs (at + 2) → packedAt xs at ≡ Unreadable NotShortest
+    told-third : TopBit xs at → TopBit xs (at + 1) → IsZero xs (at + 2) → packedAt xs at ≡ Unreadable fault.NotShortest
     unfolding joined
     told-third a b z = rw (both-more a b, number-last xs (at + 2) 1 (omega arith) (z .there) (omega (arith, z .octet)), z .octet)
 
-    told-on : TopBit xs at → TopBit xs (at + 1) → TopBit xs (at + 2) → packedAt xs at ≡ Unreadable TooLong
+    told-on : TopBit xs at → TopBit xs (at + 1) → TopBit xs (at + 2) → packedAt xs at ≡ Unreadable fault.GoesOn
     unfolding joined numberIn
     told-on a b c = rw (both-more a b, number-more xs (at + 2) 1 (omega arith) (c .there) (c .top))
 
@@ -107,32 +116,32 @@ module _ (xs : List ℕ) where
     told : Told xs at (packedAt xs at)
     told =
         by-octet at (λ h. rw (past-end xs at h) (no-octet h)) (λ h l. rw (octet-alone xs at h l) tt)
-        (λ a. by-octet (at + 1) (λ h. rw (told-one h a) (one-octet (omega (arith, a .there)) a))
+        (λ a. by-octet (at + 1) (λ h. rw (told-one h a) (only-one (omega (arith, a .there)) a))
         (λ h l. ended _ _ _ _ _ (first-more a) (number-last xs (at + 1) 2 (omega arith) h l) (λ z. in-second a (record { there = h; octet = z })))
-        (λ b. by-octet (at + 2) (λ h. rw (told-two h a b) (two-octets (omega (arith, b .there)) a b))
+        (λ b. by-octet (at + 2) (λ h. rw (told-two h a b) (only-two (omega (arith, b .there)) a b))
         (λ h l. ended _ _ _ _ _ (both-more a b) (number-last xs (at + 2) 1 (omega arith) h l) (λ z. in-third a b (record { there = h; octet = z })))
         (λ c. rw (told-on a b c) (record { first = a; second = b; third = c }))))
 
     -- ---- each exactly when
 
-    pub ran-out : packedAt xs at ≡ Unreadable RanOut → RunsOut xs at
+    pub ran-out : packedAt xs at ≡ Unreadable fault.RanOut → RunsOut xs at
     ran-out e = rw e at told
 
-    pub ran-out-told : RunsOut xs at → packedAt xs at ≡ Unreadable RanOut
+    pub ran-out-told : RunsOut xs at → packedAt xs at ≡ Unreadable fault.RanOut
     ran-out-told (no-octet h) = past-end xs at h
-    ran-out-told (one-octet h a) = told-one (omega arith) a
-    ran-out-told (two-octets h a b) = told-two (omega arith) a b
+    ran-out-told (only-one h a) = told-one (omega arith) a
+    ran-out-told (only-two h a b) = told-two (omega arith) a b
 
-    pub too-long : packedAt xs at ≡ Unreadable TooLong → GoesOn xs at
+    pub too-long : packedAt xs at ≡ Unreadable fault.GoesOn → GoesOn xs at
     too-long e = rw e at told
 
-    pub too-long-told : GoesOn xs at → packedAt xs at ≡ Unreadable TooLong
+    pub too-long-told : GoesOn xs at → packedAt xs at ≡ Unreadable fault.GoesOn
     too-long-told g = told-on (g .first) (g .second) (g .third)
 
-    pub not-shortest : packedAt xs at ≡ Unreadable NotShortest → EndsInZero xs at
+    pub not-shortest : packedAt xs at ≡ Unreadable fault.NotShortest → EndsInZero xs at
     not-shortest e = rw e at told
 
-    pub not-shortest-told : EndsInZero xs at → packedAt xs at ≡ Unreadable NotShortest
+    pub not-shortest-told : EndsInZero xs at → packedAt xs at ≡ Unreadable fault.NotShortest
     not-shortest-told (in-second a z) = told-second a z
     not-shortest-told (in-third a b z) = told-third a b z
 
@@ -161,7 +170,7 @@ module _ (xs : List ℕ) where
           fewer = omega (arith, few-in less 2 n small);
         }
 
-    pub shorter : packedAt xs at ≡ Unreadable NotShortest → HasShorter xs at
+    pub shorter : packedAt xs at ≡ Unreadable fault.NotShortest → HasShorter xs at
     shorter e = go (not-shortest e)
       where
         one : TopBit xs at → (i : ℕ) → i < 1 → TopBit xs (at + i)
@@ -178,7 +187,7 @@ module _ (xs : List ℕ) where
         go (in-third a b z) = ends-shorter 1 (omega arith) (two a b) z
 
     -- and where the last octet is not 0 there is none
-    pub shorter-told : HasShorter xs at → packedAt xs at ≡ Unreadable NotShortest
+    pub shorter-told : HasShorter xs at → packedAt xs at ≡ Unreadable fault.NotShortest
     unfolding packed
     shorter-told s = go (s .more) (omega (arith, s .fewer, packed-size (s .number))) (s .most) (s .tops) last
       where
@@ -189,7 +198,7 @@ module _ (xs : List ℕ) where
             (λ t. let high = rw (s .stands) at (by-last (s .more) (s .there) (s .last) .1 (eqb-false _ _ t)) in
             absurd (omega (arith, s .fewer, many-in (s .more) 2 (s .number) (s .most) high)))
 
-        go : (k : ℕ) → 1 ≤ k → k ≤ 2 → ((i : ℕ) → i < k → TopBit xs (at + i)) → IsZero xs (at + k) → packedAt xs at ≡ Unreadable NotShortest
+        go : (k : ℕ) → 1 ≤ k → k ≤ 2 → ((i : ℕ) → i < k → TopBit xs (at + i)) → IsZero xs (at + k) → packedAt xs at ≡ Unreadable fault.NotShortest
         go zero some few tops z = absurd (omega arith)
         go (suc zero) some few tops z = told-second (rw (add-zero at) at (tops 0 (omega arith))) z
         go (suc (suc zero)) some few tops z = told-third (rw (add-zero at) at (tops 0 (omega arith))) (tops 1 (omega arith)) z

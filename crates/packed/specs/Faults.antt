@@ -19,8 +19,8 @@ pub record IsZero (xs : List ℕ) (at : ℕ) : Type 0 where
 -- "the octets ran out (no octet, or one or two that all have the top bit set)"
 pub data RunsOut (xs : List ℕ) (at : ℕ) : Type 0 where
   no-octet : length xs ≤ at → RunsOut xs at
-  one-octet : length xs ≡ at + 1 → TopBit xs at → RunsOut xs at
-  two-octets : length xs ≡ at + 2 → TopBit xs at → TopBit xs (at + 1) → RunsOut xs at
+  only-one : length xs ≡ at + 1 → TopBit xs at → RunsOut xs at
+  only-two : length xs ≡ at + 2 → TopBit xs at → TopBit xs (at + 1) → RunsOut xs at
 
 -- "a third octet still had its top bit set"
 pub record GoesOn (xs : List ℕ) (at : ℕ) : Type 0 where

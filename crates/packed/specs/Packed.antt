@@ -4,7 +4,7 @@ use mathlib.Core.Bool.{cond}
 use mathlib.Core.List.{List, [], _∷_}
 use lib.Dec.{eqb, ltb}
 use lib.ListN.{drop}
-use Rattle.packed.specs.declared.Fault.the-variants.{RanOut, TooLong, NotShortest}
+use Rattle.packed.specs.declared.Fault.the-variants.{RanOut, GoesOn, NotShortest}
 use Rattle.packed.specs.declared.Packed.{Packed}
 use Rattle.packed.specs.declared.Packed.the-variants.{Number, Unreadable}
 
@@ -28,7 +28,7 @@ joined low scale (Number n next) = cond (eqb n 0) (Unreadable NotShortest) (Numb
 -- the number in at most so many octets, which stand from a place on; none where there would be one more (of three: "a third octet still had
 -- its top bit set"), or where "the octets ran out"
 unfoldable pub numberIn : ℕ → ℕ → List ℕ → Packed
-numberIn zero at xs = Unreadable TooLong
+numberIn zero at xs = Unreadable GoesOn
 numberIn (suc most) at [] = Unreadable RanOut
 numberIn (suc most) at (x ∷ xs) = cond (ltb x 128) (Number x (at + 1)) (joined (x - 128) 128 (numberIn most (at + 1) xs))
 

@@ -11,13 +11,13 @@ ghost use Rattle.packed.specs.Packed.{packed, packedAt, maxPacked};
 pub enum Fault {
     // The octets ran out: there is none, or one or two that all have the top bit set.
     RanOut,
-    // The third octet still has its top bit set.
-    TooLong,
+    // The third octet still has its top bit set: the number goes on past it.
+    GoesOn,
     // A shorter spelling exists.
     NotShortest,
 }
 
-// What stands at a place: a number and the place after it, or no packed integer.
+// What stands at a place: a number and the place after it, or why there is none.
 pub enum Packed {
     Number(u32, usize),
     Unreadable(Fault),
@@ -65,7 +65,7 @@ pub fn read_packed(octets: &[u8], at: usize) -> Packed
         scale *= 128;
         left -= 1;
     }
-    Packed::Unreadable(Fault::TooLong)
+    Packed::Unreadable(Fault::GoesOn)
 }
 
 // Writes a number of at most 2,097,151 in the fewest octets.

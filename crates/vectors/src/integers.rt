@@ -76,7 +76,7 @@ pub fn tell(cause: Cause) {
 fn why(fault: Fault) {
     match fault {
         Fault::RanOut => show::text(b" (octets ran out)"),
-        Fault::TooLong => show::text(b" (a third octet with its top bit set)"),
+        Fault::GoesOn => show::text(b" (a third octet with its top bit set)"),
         Fault::NotShortest => show::text(b" (a shorter spelling exists)"),
     }
 }

@@ -87,12 +87,17 @@ fn within(types: &[u8], payload: &[u8], list: &mut [u32], room: usize) -> Answer
 // Tells the answer's number and its cause, and returns how many leaves there are.
 fn answered(answer: Answer) -> usize {
     show::number(b"", answer.number() as usize);
-    integers::tell(answer.cause());
-    if let Answer::Leaves(count) = answer {
-        show::number(b" with ", count);
-        return count;
+    match answer {
+        Answer::Leaves(count) => {
+            show::number(b" with ", count);
+            count
+        }
+        Answer::Misfit(cause) => {
+            integers::tell(cause);
+            0
+        }
+        _ => 0,
     }
-    0
 }
 
 fn leaves(count: usize, list: &[u32]) {
