@@ -132,11 +132,11 @@ module _ (xs : List ℕ) where
     ran-out-told (only-one h a) = told-one (omega arith) a
     ran-out-told (only-two h a b) = told-two (omega arith) a b
 
-    pub too-long : packedAt xs at ≡ Unreadable fault.GoesOn → GoesOn xs at
-    too-long e = rw e at told
+    pub goes-on : packedAt xs at ≡ Unreadable fault.GoesOn → GoesOn xs at
+    goes-on e = rw e at told
 
-    pub too-long-told : GoesOn xs at → packedAt xs at ≡ Unreadable fault.GoesOn
-    too-long-told g = told-on (g .first) (g .second) (g .third)
+    pub goes-on-told : GoesOn xs at → packedAt xs at ≡ Unreadable fault.GoesOn
+    goes-on-told g = told-on (g .first) (g .second) (g .third)
 
     pub not-shortest : packedAt xs at ≡ Unreadable fault.NotShortest → EndsInZero xs at
     not-shortest e = rw e at told
