@@ -1,4 +1,6 @@
 // Capture logs (02, T-05): records of the bodies that went to the box and came from it, written and read.
+#![tactic(auto)]
+
 mod reading;
 mod records;
 mod writing;

@@ -6,7 +6,7 @@ use crate::records::{MARK, Record, is_in_range};
 use octets::read_le;
 
 // What stands at a place of a log.
-#[derive(Drop)]
+#[derive(Clone, Copy)]
 pub enum Found {
     At(Record),
     // The log ends here.

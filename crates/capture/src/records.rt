@@ -5,7 +5,7 @@ ghost use Rattle.capture.specs.Records.{is_in_range};
 use octets::Body;
 
 // A record where it stands in a log.
-#[derive(Drop)]
+#[derive(Clone, Copy)]
 pub struct Record {
     pub direction: u8,
     // Where its body starts, and how many octets that has.

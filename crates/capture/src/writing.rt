@@ -7,7 +7,7 @@ ghost use Rattle.capture.specs.Writing.{number_of, next_of, reported, writing};
 use crate::records::{MARK, Record, is_in_range};
 use octets::{write_le, write_octet, write_octets};
 
-#[derive(Drop)]
+#[derive(Clone, Copy)]
 pub enum Written {
     // The place after the record.
     Next(usize),

@@ -14,7 +14,7 @@ use reply::{write_reply, write_status};
 use request::{Verdict, verdict_of};
 
 // The effect on the whole box, the link, and how many octets the reply has.
-#[derive(Drop)]
+#[derive(Clone, Copy)]
 pub struct Decided {
     pub effect: Effect,
     pub link: Link,

@@ -10,7 +10,7 @@ use typestring::Value;
 use utf8::is_utf8;
 
 // Where a value stands: its start, its length and the place after it; or that it does not fit, and the fault if it is a packed integer.
-#[derive(Drop)]
+#[derive(Clone, Copy)]
 pub enum Span {
     Misfit(Cause),
     At(usize, usize, usize),

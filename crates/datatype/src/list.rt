@@ -9,7 +9,7 @@ use crate::leaf::Span;
 use packed::Cause;
 
 // What reading has come to: the payload does not fit, with the cause, or the place reached in it and the number of leaves so far.
-#[derive(Drop)]
+#[derive(Clone, Copy)]
 pub enum Read {
     Misfit(Cause),
     Upto(usize, usize),

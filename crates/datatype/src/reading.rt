@@ -11,7 +11,7 @@ use packed::Cause;
 use typestring::{ItemKind, TypeString, ends_part, is_type, item_end, kind_of};
 
 // A payload is a slice; this type only has its limits.
-#[derive(Drop)]
+#[derive(Clone, Copy)]
 pub struct Payload {}
 
 impl Payload {
@@ -21,7 +21,7 @@ impl Payload {
 }
 
 // What the public call answers, with 01's number of each.
-#[derive(Drop)]
+#[derive(Clone, Copy)]
 pub enum Answer {
     // 0: so many leaves stand in the list.
     Leaves(usize),

@@ -1,4 +1,6 @@
 // The state of the box: what setup makes, what the rules allow, what a link holds and what it sees of the rest.
+#![tactic(auto)]
+
 pub mod ports;
 mod rules;
 mod set_up;

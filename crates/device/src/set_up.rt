@@ -7,7 +7,7 @@ use crate::state::{Device, Settings, Text};
 use octets::write_octets;
 
 // 01's numbers: 0 and 14.
-#[derive(Drop)]
+#[derive(Clone, Copy)]
 pub enum Answer {
     Ready,
     BadSetup,
@@ -25,7 +25,7 @@ impl Answer {
     }
 }
 
-#[derive(Drop)]
+#[derive(Clone, Copy)]
 pub struct Configured {
     pub answer: Answer,
     pub device: Device,

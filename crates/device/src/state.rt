@@ -7,20 +7,20 @@ use octets::write_octets;
 use property::{number_at, power_state, slot, status};
 
 // The version text that setup gave.
-#[derive(Drop)]
+#[derive(Clone, Copy)]
 pub struct Text {
     pub octets: [u8; Device::MAX_TEXT],
     pub len: usize,
 }
 
 // Octets that a link holds: its name, or its ports as they travel, two octets each.
-#[derive(Drop)]
+#[derive(Clone, Copy)]
 pub struct Held {
     pub octets: [u8; Link::MAX_HELD],
     pub len: usize,
 }
 
-#[derive(Drop)]
+#[derive(Clone, Copy)]
 pub struct Link {
     // The last status.
     pub status: u8,
@@ -31,7 +31,7 @@ pub struct Link {
 }
 
 // What setup gave; `links` is how many are set up.
-#[derive(Drop)]
+#[derive(Clone, Copy)]
 pub struct Settings {
     pub links: usize,
     pub vendor: u32,
@@ -39,7 +39,7 @@ pub struct Settings {
     pub address: [u8; Device::ADDRESS_SIZE],
 }
 
-#[derive(Drop)]
+#[derive(Clone, Copy)]
 pub struct Device {
     pub settings: Settings,
     pub power: u8,

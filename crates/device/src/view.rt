@@ -6,7 +6,7 @@ ghost use Rattle.device.specs.View.{power_after, after, view_of};
 use crate::state::{Device, Link, Settings, default_power};
 
 // One link and the values that all links share; no other link.
-#[derive(Drop)]
+#[derive(Clone, Copy)]
 pub struct View {
     pub settings: Settings,
     pub power: u8,
@@ -14,7 +14,7 @@ pub struct View {
 }
 
 // What a body does to the whole box.
-#[derive(Drop)]
+#[derive(Clone, Copy)]
 pub enum Effect {
     None,
     Reset,

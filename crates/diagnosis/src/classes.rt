@@ -10,7 +10,7 @@ use property::status;
 use request::{Verdict, verdict_of};
 
 // What becomes of a body, with the number, or the step and the status, that the papers have for it.
-#[derive(Drop)]
+#[derive(Clone, Copy)]
 pub enum Class {
     // 14: the number of links is not 1 to 4.
     BadLinks,

@@ -15,7 +15,7 @@ use property::{Command, Row, status};
 use request::{Verdict, verdict_of};
 
 // Why a body was refused, with the papers' number, or the step, the status and the place in the body.
-#[derive(Drop)]
+#[derive(Clone, Copy)]
 pub enum Explained {
     // 11: the state of the box breaks its own rules.
     BadState,

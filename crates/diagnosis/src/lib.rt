@@ -1,4 +1,6 @@
 // How far a body gets, and why it was refused, told without carrying it out.
+#![tactic(auto)]
+
 mod classes;
 mod explanation;
 mod shape;

@@ -6,7 +6,7 @@ ghost use Rattle.diagnosis.specs.Shape.{shape_of_size, is_bad_bool, number_shape
 use octets::find_octet;
 use property::{Command, Kind, Number, Row, number_at, power_state, status};
 
-#[derive(Drop)]
+#[derive(Clone, Copy)]
 pub enum Shape {
     Fits,
     // What is wrong stands so many octets behind the payload's start.

@@ -12,7 +12,7 @@ use property::status;
 use reply::write_status;
 
 // The box after a body, and how many octets its reply has, from the front of the space lent for it.
-#[derive(Drop)]
+#[derive(Clone, Copy)]
 pub struct Answered {
     pub device: Device,
     pub len: usize,

@@ -7,7 +7,7 @@ use lines::{HexLine, LineReader};
 use octets::Body;
 
 // What a line gives the box.
-#[derive(Drop)]
+#[derive(Clone, Copy)]
 pub enum Given {
     // A blank line or a comment.
     Nothing,
@@ -17,7 +17,7 @@ pub enum Given {
     Body(usize),
 }
 
-#[derive(Drop)]
+#[derive(Clone, Copy)]
 pub struct Line {
     // Its first letter; an end of line where there is none.
     pub lead: u8,

@@ -1,5 +1,7 @@
 // The program that says why the box refused (02, T-08): a body a line in hex on standard input, and for each its reply and the step that stopped
 // it on standard output, before the next line is taken up.
+#![tactic(auto)]
+
 mod line;
 mod run;
 mod turn;

@@ -9,7 +9,7 @@ use device::Device;
 use libc::{STDIN_FILENO, STDOUT_FILENO};
 
 // The box, and the line that is coming in.
-#[derive(Drop)]
+#[derive(Clone, Copy)]
 pub struct Session {
     pub device: Device,
     pub line: Line,

@@ -13,7 +13,7 @@ use engine::{Answered, answer};
 use lines::write_line;
 use octets::write_octets;
 
-#[derive(Drop)]
+#[derive(Clone, Copy)]
 pub struct Turn {
     pub device: Device,
     // How many letters the line has, from the front of the space lent for it.

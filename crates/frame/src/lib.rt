@@ -1,4 +1,6 @@
 // The frame of a body on a serial cable (01, Octets on the wire; RFC 1662): the frame check, the kinds of octets, the frame writer.
+#![tactic(auto)]
+
 mod fcs;
 mod fcs_table;
 mod frame;

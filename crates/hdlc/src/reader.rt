@@ -8,7 +8,7 @@ use frame::{OctetKind, fcs16, kind_of};
 use octets::{Body, read_le};
 
 // What became of a frame, with 01's number of each fate.
-#[derive(Drop)]
+#[derive(Clone, Copy)]
 pub enum Fate {
     // 0: the input ended and no frame is finished.
     Unfinished,
@@ -43,7 +43,7 @@ impl Fate {
     }
 }
 
-#[derive(Drop)]
+#[derive(Clone, Copy)]
 pub struct Reader {
     // How many octets are gathered, from the front of the assembly buffer.
     pub count: usize,
@@ -54,7 +54,7 @@ pub struct Reader {
 }
 
 // What one call gives.
-#[derive(Drop)]
+#[derive(Clone, Copy)]
 pub struct Reading {
     pub fate: Fate,
     // How many octets of the input were read, the deciding flag included.
@@ -62,7 +62,7 @@ pub struct Reading {
     pub reader: Reader,
 }
 
-#[derive(Drop)]
+#[derive(Clone, Copy)]
 struct Step {
     fate: Fate,
     reader: Reader,

@@ -1,4 +1,6 @@
 // Octets as lines of hex: written, and read.
+#![tactic(auto)]
+
 mod line;
 mod reader;
 

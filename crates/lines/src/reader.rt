@@ -4,7 +4,7 @@ ghost use Rattle.std.specs.Prelude.{◌≡◌};
 ghost use Rattle.lines.specs.Reader.{digit_of, fresh, at, keeping, with_octet, first, second, step, reading, good_line, answer_of, outcome, read_line};
 
 // How far a reader has come in a line.
-#[derive(Drop)]
+#[derive(Clone, Copy)]
 pub enum Stage {
     // Before its first letter.
     Start,
@@ -18,7 +18,7 @@ pub enum Stage {
     Wrong,
 }
 
-#[derive(Drop)]
+#[derive(Clone, Copy)]
 pub struct LineReader {
     pub stage: Stage,
     // How many octets are kept, from the front of the lent space.
@@ -28,7 +28,7 @@ pub struct LineReader {
 }
 
 // What a line comes to.
-#[derive(Drop)]
+#[derive(Clone, Copy)]
 pub enum HexLine {
     // It spells so many octets, and all are kept.
     Octets(usize),

@@ -4,14 +4,14 @@ ghost use Rattle.method.specs.Outcome.{done, refused};
 
 use device::{Effect, Link};
 
-#[derive(Drop)]
+#[derive(Clone, Copy)]
 pub enum Outcome {
     Done(Effect),
     Refused(u8),
 }
 
 // What a command comes to, and the link that it leaves; a refusal leaves the link as it was.
-#[derive(Drop)]
+#[derive(Clone, Copy)]
 pub struct Performed {
     pub outcome: Outcome,
     pub link: Link,

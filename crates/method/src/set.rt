@@ -12,7 +12,7 @@ use device::{Effect, Held, Link, stack_keeps};
 use octets::{find_octet, read_le};
 use property::{Kind, Number, Row, is_within, number_at, power_state, status};
 
-#[derive(Drop)]
+#[derive(Clone, Copy)]
 pub enum PayloadNumber {
     Good(u32),
     // Refused with this status.

@@ -1,4 +1,6 @@
 // The program (01, Bodies and their replies): wire octets on standard input, and each reply body as a line of hex on standard output.
+#![tactic(auto)]
+
 mod serve;
 mod turn;
 

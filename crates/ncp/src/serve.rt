@@ -11,7 +11,7 @@ use hdlc::Reader;
 use libc::{STDIN_FILENO, STDOUT_FILENO};
 
 // The box and its reader between two calls.
-#[derive(Drop)]
+#[derive(Clone, Copy)]
 pub struct Session {
     pub device: Device,
     pub reader: Reader,
@@ -20,7 +20,7 @@ pub struct Session {
 }
 
 // A session after some octets of its input.
-#[derive(Drop)]
+#[derive(Clone, Copy)]
 pub struct Progress {
     pub session: Session,
     // How many octets were read last.

@@ -6,7 +6,7 @@ use hdlc::Reader;
 use lines::write_line;
 use serial::receive_body;
 
-#[derive(Drop)]
+#[derive(Clone, Copy)]
 pub struct Turn {
     // How many octets of the input were read.
     pub read: usize,

@@ -1,5 +1,5 @@
 // A body is a slice; this type only has its limits (01, Octets on the wire).
-#[derive(Drop)]
+#[derive(Clone, Copy)]
 pub struct Body {}
 
 impl Body {

@@ -1,4 +1,6 @@
 // Little-endian numbers of up to four octets, scans and comparisons of octets, the shape that every writer of octets has, and the limits of a body.
+#![tactic(auto)]
+
 mod body;
 mod comparing;
 mod finding;

@@ -1,5 +1,7 @@
 // Packed unsigned integers (01, Packed integers; 000, section 3.2): seven bits an octet, the least significant first, the top bit set
 // on all but the last; 1 to 3 octets, and no more of them than the number needs.
+#![tactic(auto)]
+
 ghost use Rattle.std.specs.Prelude.{◌≡◌, ◌+◌, ◌≤◌, length};
 ghost use Rattle.octets.specs.Writing.{Wrote};
 ghost use Rattle.packed.specs.Packed.{packed, packed_at, max_packed};
@@ -7,7 +9,7 @@ ghost use Rattle.packed.specs.Packed.{packed, packed_at, max_packed};
 use octets::write_octet;
 
 // Why octets at a place are no packed integer.
-#[derive(Drop)]
+#[derive(Clone, Copy)]
 pub enum Fault {
     // The octets ran out: there is none, or one or two that all have the top bit set.
     RanOut,
@@ -18,14 +20,14 @@ pub enum Fault {
 }
 
 // What stands at a place: a number and the place after it, or why there is none.
-#[derive(Drop)]
+#[derive(Clone, Copy)]
 pub enum Packed {
     Number(u32, usize),
     Unreadable(Fault),
 }
 
 // What a refusal tells beside its number or its status: the fault of a packed integer, where that is the first fault.
-#[derive(Drop)]
+#[derive(Clone, Copy)]
 pub enum Cause {
     None,
     Integer(Fault),

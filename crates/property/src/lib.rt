@@ -1,4 +1,6 @@
 // The property table (01, The property table): what each property holds, which commands it allows and whose value it is.
+#![tactic(auto)]
+
 pub mod commands;
 mod number;
 mod row;

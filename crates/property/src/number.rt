@@ -7,7 +7,7 @@ use crate::{slot, status};
 
 // A number's octets; its values, from low to high, or where low is above high those but the ones between; the largest number of the
 // width; the status of any other value.
-#[derive(Drop)]
+#[derive(Clone, Copy)]
 pub struct Number {
     pub width: usize,
     pub low: u32,

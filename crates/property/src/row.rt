@@ -7,7 +7,7 @@ use crate::commands::Command;
 use crate::slot;
 
 // A property that no command changes.
-#[derive(Drop)]
+#[derive(Clone, Copy)]
 pub enum ReadOnly {
     LastStatus,
     ProtocolVersion,
@@ -20,7 +20,7 @@ pub enum ReadOnly {
 }
 
 // What a property holds; a number, by its slot in a link.
-#[derive(Drop)]
+#[derive(Clone, Copy)]
 pub enum Kind {
     ReadOnly(ReadOnly),
     Power,
@@ -30,13 +30,13 @@ pub enum Kind {
 }
 
 // Whose value it is.
-#[derive(Drop)]
+#[derive(Clone, Copy)]
 pub enum Scope {
     Device,
     Link,
 }
 
-#[derive(Drop)]
+#[derive(Clone, Copy)]
 pub struct Row {
     pub id: u32,
     pub kind: Kind,
@@ -51,7 +51,7 @@ impl Row {
     pub const COUNT: usize = 20;
 }
 
-#[derive(Drop)]
+#[derive(Clone, Copy)]
 pub enum Found {
     At(Row),
     Unknown,

@@ -1,5 +1,7 @@
 // The program that replays a capture log (02, T-05): the log on standard input, and for each record from the box a line on standard output,
 // whether the box of 01 replies so.
+#![tactic(auto)]
+
 mod chunks;
 mod play;
 mod run;

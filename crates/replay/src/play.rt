@@ -12,7 +12,7 @@ use engine::answer;
 use octets::same_octets;
 
 // The box, and its reply to the record just before.
-#[derive(Drop)]
+#[derive(Clone, Copy)]
 pub struct Playback {
     pub device: Device,
     // The reply stands at the front. It has no octets where that record is from the box, where its body never reached the box, and before the
@@ -22,7 +22,7 @@ pub struct Playback {
 }
 
 // The line that is printed for a record.
-#[derive(Drop)]
+#[derive(Clone, Copy)]
 pub enum Line {
     // None, for a record to the box.
     Nothing,
@@ -30,7 +30,7 @@ pub enum Line {
     No,
 }
 
-#[derive(Drop)]
+#[derive(Clone, Copy)]
 pub struct Played {
     pub playback: Playback,
     pub line: Line,

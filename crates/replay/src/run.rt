@@ -12,7 +12,7 @@ use device::Device;
 use libc::STDOUT_FILENO;
 
 // The box after a chunk of the log, and the line for it.
-#[derive(Drop)]
+#[derive(Clone, Copy)]
 pub struct Turn {
     pub playback: Playback,
     pub line: Line,
@@ -22,7 +22,7 @@ pub struct Turn {
     pub ended: bool,
 }
 
-#[derive(Drop)]
+#[derive(Clone, Copy)]
 pub struct Progress {
     pub turn: Turn,
     // The line could not be written. This ends the program too.

@@ -1,4 +1,6 @@
 // The octets of a reply: the value that a property holds, and the body around it.
+#![tactic(auto)]
+
 mod reply;
 mod value;
 

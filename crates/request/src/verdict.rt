@@ -5,7 +5,7 @@ ghost use Rattle.request.specs.Verdict.{command_of, by_property, verdict};
 use packed::{Cause, Packed, read_packed};
 use property::{Command, Found, Row, allows, commands, find, status};
 
-#[derive(Drop)]
+#[derive(Clone, Copy)]
 pub enum Verdict {
     // Stopped by 01's step of this number, with this status; and the fault of a packed integer, where that stopped it.
     Refuse(u8, u8, Cause),

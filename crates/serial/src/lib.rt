@@ -1,4 +1,6 @@
 // The box on a serial cable: the receiving call, which joins the frame reader to the command engine.
+#![tactic(auto)]
+
 mod receiving;
 
 pub use receiving::{Answer, Received, receive, receive_body};

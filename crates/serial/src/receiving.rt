@@ -11,7 +11,7 @@ use frame::write_frame;
 use hdlc::{Fate, Reader, read_frame};
 
 // What a call answers, with 01's numbers.
-#[derive(Drop)]
+#[derive(Clone, Copy)]
 pub enum Answer {
     // 0 to 6: what it read, and what became of a frame. A checked frame (1) was answered.
     Read(Fate),
@@ -37,7 +37,7 @@ impl Answer {
     }
 }
 
-#[derive(Drop)]
+#[derive(Clone, Copy)]
 pub struct Received {
     pub answer: Answer,
     // How many octets of the input were read, the deciding flag included.

@@ -5,7 +5,7 @@ ghost use Rattle.transaction_script.specs.Event.{starts_with, with_digit, decima
 use lines::{HexLine, read_line};
 use octets::{common_front, same_octets};
 
-#[derive(Drop)]
+#[derive(Clone, Copy)]
 pub enum Event {
     // A blank line or a comment.
     Nothing,

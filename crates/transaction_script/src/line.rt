@@ -7,7 +7,7 @@ use crate::event::{Event, event_of, starts_with};
 use lines::{HexLine, LineReader};
 use octets::Body;
 
-#[derive(Drop)]
+#[derive(Clone, Copy)]
 pub struct Line {
     // Its first octets: as many as the longest event that is no body has, and one more.
     pub text: [u8; Line::MAX_TEXT],

@@ -1,5 +1,7 @@
 // The program by which the table of transaction numbers is tried by hand (02, T-06): a line an event on standard input, and for each its answer on
 // standard output, before the next is taken up.
+#![tactic(auto)]
+
 mod event;
 mod line;
 mod play;

@@ -7,7 +7,7 @@ use crate::event::Event;
 use transactions::{Answer, Step, Table};
 
 // What is printed.
-#[derive(Drop)]
+#[derive(Clone, Copy)]
 pub enum Said {
     Nothing,
     // `ok`
@@ -17,7 +17,7 @@ pub enum Said {
     Answer(Answer),
 }
 
-#[derive(Drop)]
+#[derive(Clone, Copy)]
 pub struct Played {
     pub said: Said,
     pub table: Table,

@@ -9,7 +9,7 @@ use crate::play::{Said, play};
 use libc::{STDIN_FILENO, STDOUT_FILENO};
 use transactions::{Answer, Table};
 
-#[derive(Drop)]
+#[derive(Clone, Copy)]
 pub struct Script {
     pub table: Table,
     pub line: Line,

@@ -3,7 +3,7 @@ ghost use Rattle.std.specs.Prelude.{◌≡◌};
 ghost use Rattle.transactions.specs.Answer.{refusal_number, reported};
 
 // Why a call is refused, with 02's number of each reason.
-#[derive(Drop)]
+#[derive(Clone, Copy)]
 pub enum Refusal {
     // 11: the table breaks its own rules.
     BadTable,
@@ -15,7 +15,7 @@ pub enum Refusal {
     Resetting,
 }
 
-#[derive(Drop)]
+#[derive(Clone, Copy)]
 pub enum Answer {
     // Of `open`: a question may be asked under this number.
     Opened(u8),

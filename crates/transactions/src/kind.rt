@@ -4,7 +4,7 @@ ghost use Rattle.transactions.specs.Kind.{kind};
 
 use octets::{Body, same_octets};
 
-#[derive(Drop)]
+#[derive(Clone, Copy)]
 pub enum BodyKind {
     // The announcement of a reset.
     Announcement,

@@ -1,4 +1,6 @@
 // The host's table of transaction numbers (02, T-06, which calls it the desk): each of 1 to 15 is free, waiting or given up.
+#![tactic(auto)]
+
 mod answer;
 mod example;
 mod in_place;

@@ -8,7 +8,7 @@ use crate::table::Table;
 use hdlc::{Fate, Reader, read_frame};
 
 // What a call tells, with 01's numbers.
-#[derive(Drop)]
+#[derive(Clone, Copy)]
 pub enum Heard {
     // 0 and 2 to 6: no checked frame. The table is told nothing.
     Read(Fate),
@@ -34,7 +34,7 @@ impl Heard {
     }
 }
 
-#[derive(Drop)]
+#[derive(Clone, Copy)]
 pub struct Received {
     pub heard: Heard,
     // How many octets of the input were read, the deciding flag included.

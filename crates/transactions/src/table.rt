@@ -7,7 +7,7 @@ use crate::answer::{Answer, Refusal};
 use crate::kind::{BodyKind, kind_of};
 use crate::number_set::{has, with, without};
 
-#[derive(Drop)]
+#[derive(Clone, Copy)]
 pub struct Table {
     // The numbers under which a question waits for its reply, as the bits of weight 2^1 to 2^15.
     pub waiting: u16,
@@ -18,7 +18,7 @@ pub struct Table {
 }
 
 // What a call answers, and the table after it.
-#[derive(Drop)]
+#[derive(Clone, Copy)]
 pub struct Step {
     pub answer: Answer,
     pub table: Table,

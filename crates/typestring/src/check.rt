@@ -7,7 +7,7 @@ ghost use Rattle.typestring.specs.Calls.{Scanned, Stepped};
 use crate::kind::{ItemKind, kind_of};
 
 // A type string is a slice; this type only has its limits.
-#[derive(Drop)]
+#[derive(Clone, Copy)]
 pub struct TypeString {}
 
 impl TypeString {
@@ -17,14 +17,14 @@ impl TypeString {
 }
 
 // Where a part ends.
-#[derive(Drop)]
+#[derive(Clone, Copy)]
 pub enum Scan {
     Bad,
     Upto(usize),
 }
 
 // Where an item ends, and whether it has to be the last of its part.
-#[derive(Drop)]
+#[derive(Clone, Copy)]
 pub enum Step {
     Bad,
     Next(usize),

@@ -3,7 +3,7 @@ ghost use Rattle.std.specs.Prelude.{◌≡◌};
 ghost use Rattle.typestring.specs.Kind.{kind_of};
 
 // How a value that other items may follow stands in a payload.
-#[derive(Drop)]
+#[derive(Clone, Copy)]
 pub enum Value {
     // b: one octet, 00 or 01.
     Bool,
@@ -17,7 +17,7 @@ pub enum Value {
     Counted,
 }
 
-#[derive(Drop)]
+#[derive(Clone, Copy)]
 pub enum ItemKind {
     Value(Value),
     // D: the octets up to the end of the part.

@@ -1,4 +1,6 @@
 // Spinel type strings (01, Type strings): their letters, which strings are well-formed, and where an item ends.
+#![tactic(auto)]
+
 mod brackets;
 mod check;
 mod kind;

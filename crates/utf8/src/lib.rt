@@ -1,9 +1,11 @@
 // Well-formed UTF-8: the grammar of RFC 3629, section 4, octet by octet.
+#![tactic(auto)]
+
 ghost use Rattle.std.specs.Prelude.{◌≡◌};
 ghost use Rattle.utf8.specs.Utf8.{tails, leads, lead_in, step, ends, is_utf8};
 
 // How far a scan has come in a character.
-#[derive(Drop)]
+#[derive(Clone, Copy)]
 enum Stage {
     // Before a character, or behind the last.
     Between,

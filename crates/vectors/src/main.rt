@@ -1,6 +1,8 @@
 // Published vectors, run through the code. Each line of standard input is a case, and each line that is printed says what went in and what
 // came out. The kinds of lines stand at the head of the file stdin, and the source of each case beside it; the file stdout holds what must
 // come out, from these sources and from 01's rules, never from this program.
+#![tactic(auto)]
+
 mod boxes;
 mod classes;
 mod frames;

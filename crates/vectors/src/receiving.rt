@@ -13,7 +13,7 @@ use serial::{Received, receive};
 const FILLING: u8 = 0x55;
 
 // The state that a call is given, and how many octets of each buffer it is lent.
-#[derive(Drop)]
+#[derive(Clone, Copy)]
 struct Given {
     device: Device,
     reader: Reader,

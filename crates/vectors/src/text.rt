@@ -5,7 +5,7 @@ use octets::{find_octet, same_octets};
 // The most octets of one call.
 pub const MAX_OCTETS: usize = 2048;
 
-#[derive(Drop)]
+#[derive(Clone, Copy)]
 enum Found {
     Number(usize),
     Nothing,
