@@ -55,7 +55,7 @@ def declared():
 def mapping(names):
     new = {}
     taken = {n for n in names if snake(n) == n and n not in SPECIAL}
-    camel = [n for n in names if re.search("[A-Z]", n)]
+    camel = [n for n in names if re.search("[A-Z]", n) and n not in SPECIAL]
     for n in camel:
         new[n] = snake(n)
     meets = {snake(n) for n in camel}

@@ -25,7 +25,7 @@ pub data Reached (x : Item) (inner : List ℕ) (place : ℕ) : Items → List �
   in_struct : {u t : Items} {part : List ℕ} {from start size next : ℕ} → counted_at part from ≡ At start size next
       → Reached x inner place u (take next part) start → Reached x inner place (more (struct u) t) part from
   -- or in an A, behind elements that fit
-  in_array_lem : {u t : Items} {part : List ℕ} {from q : ℕ} → Fit u part from q → q < length part
+  in_array : {u t : Items} {part : List ℕ} {from q : ℕ} → Fit u part from q → q < length part
       → Reached x inner place u part q → Reached x inner place (more (array u) t) part from
 
 -- the first fault in a payload is that of a packed integer: of an i, at a place of a part, which is the payload up to the part's end

@@ -72,15 +72,18 @@ number_take (suc k) at (x ∷ xs) = rw (number_take k (at + 1) xs)
 module _ (s : List ℕ) (at : ℕ) where
   pub number_none : (k : ℕ) → 0 < k → length s ≤ at → number_in k at (drop at s) ≡ Unreadable RanOut
   unfolding number_in
+  number_none zero pos h = elim pos [ ]
   number_none (suc k) pos h = rw drop_of_length-le
 
   pub number_last : (k : ℕ) → 0 < k → at < length s → get_or s at 0 < 128 → number_in k at (drop at s) ≡ Number (get_or s at 0) (at + 1)
   unfolding number_in
+  number_last zero pos h l = elim pos [ ]
   number_last (suc k) pos h l = rw (drop_next s at h, lt-ltb (get_or s at 0) 128 l)
 
   pub number_more : (k : ℕ) → 0 < k → at < length s → 128 ≤ get_or s at 0
       → number_in k at (drop at s) ≡ joined (get_or s at 0 - 128) 128 (number_in (k - 1) (at + 1) (drop (at + 1) s))
   unfolding number_in
+  number_more zero pos h l = elim pos [ ]
   number_more (suc k) pos h l = let one : suc k - 1 ≡ k = omega arith in rw (one, drop_next s at h, le-ltb (get_or s at 0) 128 l)
 
 -- seven bits more fit below the next scale, and that is at most 128 ^ 3 where an octet is left

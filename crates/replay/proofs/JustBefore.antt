@@ -1,4 +1,4 @@
--- PROMISE: the line for a record from the box is "`yes` if the record just before is to_box_lem and this is its reply, else `no`", told by the
+-- PROMISE: the line for a record from the box is "`yes` if the record just before is to-box and this is its reply, else `no`", told by the
 -- records alone: the reply is the engine's, on the box that the bodies before it leave.
 use mathlib.Core.Bool.{Bool, true, false}
 use mathlib.Core.Path.{◌≡◌, refl, sym, ap, ◌∙◌}

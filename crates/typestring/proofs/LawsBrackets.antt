@@ -76,23 +76,23 @@ past_inside p n s e =
 mutual
   unfolding past print_item print ItemRules PartRules kind_of
 
-  past_item : (i : Item) (n left : ℕ) (in_array_lem : Bool) (s : List ℕ) → ItemRules i left in_array_lem
+  past_item : (i : Item) (n left : ℕ) (in_array : Bool) (s : List ℕ) → ItemRules i left in_array
       → past (print_item i ++ s) (suc n) ≡ length (print_item i) + past s (suc n)
-  past_item (value letter v) n left in_array_lem s r =
+  past_item (value letter v) n left in_array s r =
       rw (ne_eqb letter 40 (no_bracket letter 40 v r refl), ne_eqb letter 41 (no_bracket letter 41 v r refl)) (omega arith)
-  past_item rest n left in_array_lem s r = omega arith
-  past_item (struct t) n left in_array_lem s r = omega (arith, past_inside (print t) n s (past_part t (suc n) (left - 1) false (41 ∷ s) r.2))
-  past_item (array t) n left in_array_lem s r = omega (arith, past_inside (print t) n s (past_part t (suc n) (left - 1) true (41 ∷ s) r.3))
+  past_item rest n left in_array s r = omega arith
+  past_item (struct t) n left in_array s r = omega (arith, past_inside (print t) n s (past_part t (suc n) (left - 1) false (41 ∷ s) r.2))
+  past_item (array t) n left in_array s r = omega (arith, past_inside (print t) n s (past_part t (suc n) (left - 1) true (41 ∷ s) r.3))
 
-  past_part : (t : Items) (n left : ℕ) (in_array_lem : Bool) (s : List ℕ) → PartRules t left in_array_lem
+  past_part : (t : Items) (n left : ℕ) (in_array : Bool) (s : List ℕ) → PartRules t left in_array
       → past (print t ++ s) (suc n) ≡ length (print t) + past s (suc n)
-  past_part end n left in_array_lem s r = omega arith
-  past_part (more i t) n left in_array_lem s r =
-      rw (append_assoc, past_item i n left in_array_lem (print t ++ s) r.0, past_part t n left in_array_lem s r.2, length-append) (omega arith)
+  past_part end n left in_array s r = omega arith
+  past_part (more i t) n left in_array s r =
+      rw (append_assoc, past_item i n left in_array (print t ++ s) r.0, past_part t n left in_array s r.2, length-append) (omega arith)
 
 pub past_brackets : (s : List ℕ) (t : Items) → InBrackets s t → past s 1 ≡ length (print t) + 1
 unfolding past
-past_brackets s t b = rw (b.printed, past_part t 0 b.depth b.in_array_lem (41 ∷ b.behind) b.rules) (omega (arith, past_none b.behind 0 refl))
+past_brackets s t b = rw (b.printed, past_part t 0 b.depth b.in_array (41 ∷ b.behind) b.rules) (omega (arith, past_none b.behind 0 refl))
 
 pub brackets_within : (xs : List ℕ) (at : ℕ) (t : Items) → InBrackets (drop at xs) t → at + past (drop at xs) 1 ≤ length xs
 brackets_within xs at t b =
@@ -140,12 +140,12 @@ module _ (xs : List ℕ) (at : ℕ) where
   inside rest depth f e = impossible cc
   inside (struct t) depth f e = (
     t,
-    record { depth = depth - 1; in_array_lem = false; behind = f.behind; printed = inner_printed xs at 116 t f.behind f.printed; rules = f.rules.2 },
+    record { depth = depth - 1; in_array = false; behind = f.behind; printed = inner_printed xs at 116 t f.behind f.printed; rules = f.rules.2 },
     simp length-append (omega arith),
   )
   inside (array t) depth f e = (
     t,
-    record { depth = depth - 1; in_array_lem = true; behind = f.behind; printed = inner_printed xs at 65 t f.behind f.printed; rules = f.rules.3 },
+    record { depth = depth - 1; in_array = true; behind = f.behind; printed = inner_printed xs at 65 t f.behind f.printed; rules = f.rules.3 },
     simp length-append (omega arith),
   )
 

@@ -24,12 +24,12 @@ pub no_bracket : (letter b : ℕ) (v : Value) → kind_of letter ≡ kind.Value 
 no_bracket letter b v k o e = impossible cc
 
 -- no part ends where an item stands
-pub item_open : (i : Item) (left : ℕ) (in_array_lem : Bool) (r : List ℕ) → ItemRules i left in_array_lem → ends_part (print_item i ++ r) ≡ false
+pub item_open : (i : Item) (left : ℕ) (in_array : Bool) (r : List ℕ) → ItemRules i left in_array → ends_part (print_item i ++ r) ≡ false
 unfolding ends_part print_item ItemRules kind_of
-item_open (value c v) left in_array_lem r k = ne_eqb c 41 (no_bracket c 41 v k refl)
-item_open rest left in_array_lem r k = refl
-item_open (struct t) left in_array_lem r k = refl
-item_open (array t) left in_array_lem r k = refl
+item_open (value c v) left in_array r k = ne_eqb c 41 (no_bracket c 41 v k refl)
+item_open rest left in_array r k = refl
+item_open (struct t) left in_array r k = refl
+item_open (array t) left in_array r k = refl
 
 -- what may stand directly inside A(..) may stand anywhere
 pub relax : (t : Items) (left : ℕ) → PartRules t left true → PartRules t left false

@@ -38,10 +38,10 @@ pub record ItemFrom (s : List ℕ) (depth : ℕ) (i : Item) : Type 0 where
 -- a part's tree is printed in brackets, the opening one passed
 pub record InBrackets (s : List ℕ) (t : Items) : Type 0 where
   pub depth : ℕ
-  pub in_array_lem : Bool
+  pub in_array : Bool
   pub behind : List ℕ
   pub printed : s ≡ print t ++ 41 ∷ behind
-  pub rules : PartRules t depth in_array_lem
+  pub rules : PartRules t depth in_array
 
 -- whatever item, or part in brackets, is printed at a place, it ends at another
 abbrev pub EndsItem : List ℕ → ℕ → ℕ → Type 0

@@ -45,17 +45,17 @@ Some (more i t) = Unit {0}
 unfoldable mutual
   pub ItemRules : Item → ℕ → Bool → Type 0
   -- "all of them these letters and brackets"
-  ItemRules (value letter v) left in_array_lem = kind_of letter ≡ kind.Value v
+  ItemRules (value letter v) left in_array = kind_of letter ≡ kind.Value v
   -- "Directly inside A(...) there is no D and no A"
-  ItemRules rest left in_array_lem = in_array_lem ≡ false
+  ItemRules rest left in_array = in_array ≡ false
   -- "Brackets hold at least one item and at most four are open at once"
-  ItemRules (struct t) left in_array_lem = (0 < left) × Some t × PartRules t (left - 1) false
-  ItemRules (array t) left in_array_lem = (in_array_lem ≡ false) × (0 < left) × Some t × PartRules t (left - 1) true
+  ItemRules (struct t) left in_array = (0 < left) × Some t × PartRules t (left - 1) false
+  ItemRules (array t) left in_array = (in_array ≡ false) × (0 < left) × Some t × PartRules t (left - 1) true
 
   pub PartRules : Items → ℕ → Bool → Type 0
-  PartRules end left in_array_lem = Unit {0}
+  PartRules end left in_array = Unit {0}
   -- D and A "must stand last in it"
-  PartRules (more i t) left in_array_lem = ItemRules i left in_array_lem × (final i ≡ true → t ≡ end) × PartRules t left in_array_lem
+  PartRules (more i t) left in_array = ItemRules i left in_array × (final i ≡ true → t ≡ end) × PartRules t left in_array
 
 -- "at most four are open at once"
 abbrev pub max_open : ℕ

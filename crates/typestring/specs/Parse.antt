@@ -27,9 +27,9 @@ passed (parsed t (c ∷ s)) = parsed t s
 
 -- the brackets behind a t or an A, `part` being how a part is parsed
 unfoldable pub inside : (ℕ → Bool → List ℕ → Parsed) → ℕ → Bool → List ℕ → Parsed
-inside part zero in_array_lem s = malformed
-inside part (suc left) in_array_lem [] = malformed
-inside part (suc left) in_array_lem (c ∷ s) = cond (eqb c 40) (cond (ends_part s) malformed (passed (part left in_array_lem s))) malformed
+inside part zero in_array s = malformed
+inside part (suc left) in_array [] = malformed
+inside part (suc left) in_array (c ∷ s) = cond (eqb c 40) (cond (ends_part s) malformed (passed (part left in_array s))) malformed
 
 -- a part in brackets as the item of its t or A
 unfoldable pub headed : (Items → Item) → Parsed → Head
@@ -38,16 +38,16 @@ headed item (parsed t s) = one (item t) s
 
 -- the item of a letter of some kind, with what follows the letter
 unfoldable pub item_of : (ℕ → Bool → List ℕ → Parsed) → ItemKind → ℕ → ℕ → Bool → List ℕ → Head
-item_of part (kind.Value v) letter left in_array_lem s = one (value letter v) s
-item_of part kind.Rest letter left in_array_lem s = cond in_array_lem no_item (one rest s)
-item_of part kind.Struct letter left in_array_lem s = headed struct (inside part left false s)
-item_of part kind.Array letter left in_array_lem s = cond in_array_lem no_item (headed array (inside part left true s))
-item_of part kind.Other letter left in_array_lem s = no_item
+item_of part (kind.Value v) letter left in_array s = one (value letter v) s
+item_of part kind.Rest letter left in_array s = cond in_array no_item (one rest s)
+item_of part kind.Struct letter left in_array s = headed struct (inside part left false s)
+item_of part kind.Array letter left in_array s = cond in_array no_item (headed array (inside part left true s))
+item_of part kind.Other letter left in_array s = no_item
 
 -- the item at the front of a string
 unfoldable pub item_in : (ℕ → Bool → List ℕ → Parsed) → ℕ → Bool → List ℕ → Head
-item_in part left in_array_lem [] = no_item
-item_in part left in_array_lem (c ∷ s) = item_of part (kind_of c) c left in_array_lem s
+item_in part left in_array [] = no_item
+item_in part left in_array (c ∷ s) = item_of part (kind_of c) c left in_array s
 
 -- an item in front of those after it
 unfoldable pub joined : Item → Parsed → Parsed
@@ -61,14 +61,14 @@ follow part (one i s) = cond (final i) (cond (ends_part s) (parsed (more i end) 
 
 -- a part; the first number bounds how often items are asked for, and one more than the octets is enough
 unfoldable pub part_in : ℕ → ℕ → Bool → List ℕ → Parsed
-part_in zero left in_array_lem s = malformed
-part_in (suc n) left in_array_lem s = cond (ends_part s) (parsed end s) (follow (part_in n left in_array_lem) (item_in (part_in n) left in_array_lem s))
+part_in zero left in_array s = malformed
+part_in (suc n) left in_array s = cond (ends_part s) (parsed end s) (follow (part_in n left in_array) (item_in (part_in n) left in_array s))
 
 unfoldable pub part_at : ℕ → Bool → List ℕ → Parsed
-part_at left in_array_lem s = part_in (suc (length s)) left in_array_lem s
+part_at left in_array s = part_in (suc (length s)) left in_array s
 
 unfoldable pub item_at : ℕ → Bool → List ℕ → Head
-item_at left in_array_lem s = item_in part_at left in_array_lem s
+item_at left in_array s = item_in part_at left in_array s
 
 -- a part that is the whole string
 unfoldable pub whole : Parsed → Parsed

@@ -57,7 +57,7 @@ pub fn ends_part(types: &[u8], at: usize) -> bool
 #[cycle(check_inside_check_item_check_sequence)]
 fn check_sequence(types: &[u8], at: usize, depth: usize, in_array: bool) -> Scan
     requires { at ≤ length types.now }
-    ensures { Scanned types.now at (parse.part_at depth in_array_lem (drop at types.now)) result }
+    ensures { Scanned types.now at (parse.part_at depth in_array (drop at types.now)) result }
 {
     let mut next = at;
     loop {
@@ -84,7 +84,7 @@ fn check_sequence(types: &[u8], at: usize, depth: usize, in_array: bool) -> Scan
 #[cycle(check_inside_check_item_check_sequence)]
 fn check_item(types: &[u8], at: usize, depth: usize, in_array: bool) -> Step
     requires { at < length types.now }
-    ensures { Stepped types.now at (parse.item_at depth in_array_lem (drop at types.now)) result }
+    ensures { Stepped types.now at (parse.item_at depth in_array (drop at types.now)) result }
 {
     let after = at + 1;
     match kind_of(types[at]) {
@@ -116,7 +116,7 @@ fn check_item(types: &[u8], at: usize, depth: usize, in_array: bool) -> Step
 #[cycle(check_inside_check_item_check_sequence)]
 fn check_inside(types: &[u8], at: usize, depth: usize, in_array: bool) -> Scan
     requires { at ≤ length types.now }
-    ensures { Scanned types.now at (parse.inside parse.part_at depth in_array_lem (drop at types.now)) result }
+    ensures { Scanned types.now at (parse.inside parse.part_at depth in_array (drop at types.now)) result }
 {
     if depth == 0 {
         return Scan::Bad;

@@ -111,8 +111,8 @@ check_inside_sub_check_sequence t c = omega arith
 -- the brackets hold an item
 check_inside_part : (t : ℕ) (c : check-inside-lts.Else4 (check_inside_claims t) (check_inside_at t) check-inside.Post)
     → let a = c.before.before.before.before.before.before.before.args in
-    inside part_at a.depth a.in_array_lem (drop a.at a.types.now)
-    ≡ passed (part_at (a.depth - 1) a.in_array_lem (drop (a.at + 1) a.types.now))
+    inside part_at a.depth a.in_array (drop a.at a.types.now)
+    ≡ passed (part_at (a.depth - 1) a.in_array (drop (a.at + 1) a.types.now))
 check_inside_part t c =
     let s = c.before.before.before.before in
     inside_some _ _ _ _ s.before.if1.false s.before.before.before.requires.1 s.if2.false c.before.before.if3.false
@@ -141,8 +141,8 @@ check_inside_returns_7 t c =
 check_item_of : (t : ℕ) (c : check-item-lts.After-kind-of (check_item_claims t) (check_item_at t) check-item.Post) {k : ItemKind}
     → let a = c.before.before.before.args in
     c.kind-of.result ≡ k
-    → item_at a.depth a.in_array_lem (drop a.at a.types.now)
-    ≡ item_of part_at k (get_or a.types.now a.at 0) a.depth a.in_array_lem (drop (a.at + 1) a.types.now)
+    → item_at a.depth a.in_array (drop a.at a.types.now)
+    ≡ item_of part_at k (get_or a.types.now a.at 0) a.depth a.in_array (drop (a.at + 1) a.types.now)
 check_item_of t c e = item_at_lem _ _ _ _ c.before.before.before.requires.1 c.kind-of.ensures e
 
 check_item_add_after : (t : ℕ) → check-item-lts.Need-overflow-add-after (check_item_claims t) (check_item_at t) check-item.Post
@@ -198,10 +198,10 @@ unfolding item_of
 check_item_returns_9 t c = check_item_of t c.before.before c.enum-told7.given.1
 
 abbrev invariant_loop : check-sequence-lts.invariant-loop
-invariant_loop types at depth in_array_lem next₀ next = (at ≤ next) × (next ≤ length types) × Onward types depth in_array_lem next at
+invariant_loop types at depth in_array next₀ next = (at ≤ next) × (next ≤ length types) × Onward types depth in_array next at
 
 abbrev decreases_loop : check-sequence-lts.decreases-loop
-decreases_loop types at depth in_array_lem next₀ next = length types - next
+decreases_loop types at depth in_array next₀ next = length types - next
 
 check_sequence_loop_holds : (t : ℕ)
     → check-sequence-lts.Need-loop-init (check_sequence_claims t) (check_sequence_at t) check-sequence.Post invariant_loop decreases_loop

@@ -1,0 +1,43 @@
+-- Each return is a case of the answer.
+use mathlib.Core.Path.{◌≡◌, sym, ap, ◌∙◌}
+use mathlib.Core.List.{List}
+use Prim.Native.Nat.{ℕ, ◌+◌, ◌≤◌}
+use native.Mathlib.Omega.{arith}
+use borrow.Author.Rules.{rules}
+use lib.ListN.{length, get_or}
+use Rattle.octets.specs.LittleEndian.{le_at}
+use Rattle.capture.specs.Records.{is_in_range}
+use Rattle.capture.proofs.Answers.{past_end, at_end_lem, under_five, bad_mark, out_of_range, body_cut, whole}
+use Rattle.capture.proofs.reading.read_record.Goals as goal
+
+pub returns-then-log-at : goal.returns-then-log-at
+returns-then-log-at c =
+    sym (past_end _ _ c.if-log-at.true)
+
+pub returns-then-left-eq0 : goal.returns-then-left-eq0
+returns-then-left-eq0 c =
+    sym (at_end_lem _ _ (omega arith))
+
+pub returns-then-left-lt-HEAD_SIZE : goal.returns-then-left-lt-HEAD_SIZE
+returns-then-left-lt-HEAD_SIZE c =
+    sym (under_five _ _ (omega arith) (omega arith))
+
+pub returns-then-log-at-2 : goal.returns-then-log-at-2
+returns-then-log-at-2 c =
+    sym (bad_mark _ _ (omega arith) (λ p q. c.if-log-at-2.true p))
+
+pub returns-then-log-at-3 : goal.returns-then-log-at-3
+returns-then-log-at-3 c =
+    sym (bad_mark _ _ (omega arith) (λ p q. c.if-log-at-3.true q))
+
+pub returns-then-left-len : goal.returns-then-left-len
+returns-then-left-len c =
+    sym (body_cut _ _ ((let h : c.args.at + 5 ≤ length c.args.log.now = omega arith in h)) ((let h : get_or c.args.log.now c.args.at 0 ≡ 0x53 = c.if-log-at-2.false in h)) ((let h : get_or c.args.log.now (c.args.at + 1) 0 ≡ 0x50 = c.if-log-at-3.false in h)) ((let h : is_in_range (get_or c.args.log.now (c.args.at + 2) 0) (le_at c.args.log.now (c.args.at + 3) 2) ≡ c.is_in_range.result = ap (is_in_range (get_or c.args.log.now (c.args.at + 2) 0)) (sym (let h : c.read_le-len.result ≡ le_at c.args.log.now (c.args.at + 3) 2 = c.read_le-len.ensures in h)) ∙ sym c.is_in_range.ensures in h) ∙ c.if-is_in_range.true) (omega (arith, (let h : c.read_le-len.result ≡ le_at c.args.log.now (c.args.at + 3) 2 = c.read_le-len.ensures in h))))
+
+pub returns-then-is_in_range : goal.returns-then-is_in_range
+returns-then-is_in_range c =
+    rw ((let h : c.read_le-len.result ≡ le_at c.args.log.now (c.args.at + 3) 2 = c.read_le-len.ensures in h)) (sym (whole _ _ ((let h : c.args.at + 5 ≤ length c.args.log.now = omega arith in h)) ((let h : get_or c.args.log.now c.args.at 0 ≡ 0x53 = c.if-log-at-2.false in h)) ((let h : get_or c.args.log.now (c.args.at + 1) 0 ≡ 0x50 = c.if-log-at-3.false in h)) ((let h : is_in_range (get_or c.args.log.now (c.args.at + 2) 0) (le_at c.args.log.now (c.args.at + 3) 2) ≡ c.is_in_range.result = ap (is_in_range (get_or c.args.log.now (c.args.at + 2) 0)) (sym (let h : c.read_le-len.result ≡ le_at c.args.log.now (c.args.at + 3) 2 = c.read_le-len.ensures in h)) ∙ sym c.is_in_range.ensures in h) ∙ c.if-is_in_range.true) (omega (arith, (let h : c.read_le-len.result ≡ le_at c.args.log.now (c.args.at + 3) 2 = c.read_le-len.ensures in h)))))
+
+pub returns : goal.returns
+returns c =
+    sym (out_of_range _ _ ((let h : c.args.at + 5 ≤ length c.args.log.now = omega arith in h)) ((let h : get_or c.args.log.now c.args.at 0 ≡ 0x53 = c.if-log-at-2.false in h)) ((let h : get_or c.args.log.now (c.args.at + 1) 0 ≡ 0x50 = c.if-log-at-3.false in h)) ((let h : is_in_range (get_or c.args.log.now (c.args.at + 2) 0) (le_at c.args.log.now (c.args.at + 3) 2) ≡ c.is_in_range.result = ap (is_in_range (get_or c.args.log.now (c.args.at + 2) 0)) (sym (let h : c.read_le-len.result ≡ le_at c.args.log.now (c.args.at + 3) 2 = c.read_le-len.ensures in h)) ∙ sym c.is_in_range.ensures in h) ∙ c.if-is_in_range.false))

@@ -1,0 +1,28 @@
+-- The invariant: what is left is as the whole.
+use borrow.Author.Rules.{rules}
+use mathlib.Core.Path.{◌≡◌, refl, sym, ◌∙◌}
+use Prim.Native.Nat.{◌-◌, ◌≤◌}
+use native.Mathlib.Omega.{arith}
+use lib.ListN.{get_or}
+use Rattle.octets.specs.Scanning.{all_from, all_below}
+use Rattle.octets.proofs.LawsScanning.{scan_on, scan_stop, scan_end}
+use Rattle.device.specs.State.{no_link, max_links}
+use Rattle.device.specs.Rules.{link_kept}
+use Rattle.device.proofs.rules.links_keep.Goals as goal
+
+pub loop-k-init : goal.loop-k-init
+unfolding all_below
+loop-k-init c =
+    (omega arith, refl)
+
+pub loop-k-preserved : goal.loop-k-preserved
+loop-k-preserved c =
+    (omega arith, c.loop-k.invariant.1 ∙ scan_on _ max_links c.loop-k.k (omega arith) (sym c.link_is_kept.ensures ∙ c.if-link_is_kept.true))
+
+pub returns-else-link_is_kept : goal.returns-else-link_is_kept
+returns-else-link_is_kept c =
+    sym (c.loop-k.invariant.1 ∙ scan_stop _ max_links c.loop-k.k (omega arith) (sym c.link_is_kept.ensures ∙ c.if-link_is_kept.false))
+
+pub returns : goal.returns
+returns c =
+    sym (c.loop-k.invariant.1 ∙ scan_end _ max_links c.loop-k.k (omega arith))

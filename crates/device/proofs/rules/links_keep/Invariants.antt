@@ -1,0 +1,19 @@
+-- The invariant: what is left is as the whole.
+use borrow.Author.Rules.{rules}
+use mathlib.Core.Path.{◌≡◌, refl, sym, ◌∙◌}
+use Prim.Native.Nat.{◌-◌, ◌≤◌}
+use native.Mathlib.Omega.{arith}
+use lib.ListN.{get_or}
+use Rattle.octets.specs.Scanning.{all_from, all_below}
+use Rattle.octets.proofs.LawsScanning.{scan_on, scan_stop, scan_end}
+use Rattle.device.specs.State.{no_link, max_links}
+use Rattle.device.specs.Rules.{link_kept}
+use Rattle.device.proofs.rules.links_keep.Given as goal
+
+abbrev pub invariant-loop-k : goal.invariant-loop-k
+invariant-loop-k l =
+    (l.k ≤ max_links) × (all_below max_links (λ j. link_kept l.count (get_or l.links j no_link) j) ≡ all_from (λ j. link_kept l.count (get_or l.links j no_link) j) l.k (max_links - l.k))
+
+abbrev pub decreases-loop-k : goal.decreases-loop-k
+decreases-loop-k l =
+    max_links - l.k

@@ -1,0 +1,19 @@
+-- The invariant: what is left is as the whole.
+use borrow.Author.Rules.{rules}
+use mathlib.Core.Path.{◌≡◌, refl, sym, ◌∙◌}
+use Prim.Native.Nat.{◌-◌, ◌≤◌}
+use native.Mathlib.Omega.{arith}
+use lib.ListN.{get_or}
+use Rattle.octets.specs.Scanning.{all_from, all_below}
+use Rattle.octets.proofs.LawsScanning.{scan_on, scan_stop, scan_end}
+use Rattle.property.specs.Number.{number_at, within, slot_count}
+use Rattle.device.specs.Rules.{in_range}
+use Rattle.device.proofs.rules.numbers_keep.Given as goal
+
+abbrev pub invariant-loop-slot : goal.invariant-loop-slot
+invariant-loop-slot l =
+    (l.slot ≤ slot_count) × (in_range l.numbers ≡ all_from (λ k. within (number_at k) (get_or l.numbers k 0)) l.slot (slot_count - l.slot))
+
+abbrev pub decreases-loop-slot : goal.decreases-loop-slot
+decreases-loop-slot l =
+    slot_count - l.slot

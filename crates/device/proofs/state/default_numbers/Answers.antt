@@ -1,0 +1,34 @@
+-- The invariant: what is left of the defaults, put from the slot reached on, gives them all.
+use borrow.Author.Rules.{rules}
+use mathlib.Core.Path.{◌≡◌, refl, sym, ap, ◌∙◌}
+use Prim.Native.Nat.{◌+◌, ◌-◌, ◌≤◌}
+use native.Mathlib.Omega.{arith}
+use native.Mathlib.Nat.{zero-add}
+use lib.ListN.{length, drop, length-set, drop_of_length-le}
+use lib.Seq.{sets}
+use Rattle.octets.proofs.LawsWriting.{put_next}
+use Rattle.property.specs.Number.{numbers, slot_count}
+use Rattle.device.specs.State.{defaults}
+use Rattle.device.proofs.LawsRules.{default_at}
+use Rattle.device.proofs.state.default_numbers.Goals as goal
+
+pub loop-slot-init : goal.loop-slot-init
+unfolding defaults numbers
+loop-slot-init c =
+    (omega arith, refl, refl)
+
+pub loop-slot-preserved : goal.loop-slot-preserved
+unfolding defaults numbers
+loop-slot-preserved c =
+    let w = c.loop-slot in
+    let put = rw (zero-add w.slot, zero-add (w.slot + 1)) at (put_next w.numbers 0 w.slot defaults (omega arith)) in (
+      omega arith,
+      length-set w.numbers w.slot _ ∙ w.invariant.1,
+      rw (c.number_at.ensures.is, ← default_at w.slot (omega arith)) (put ∙ w.invariant.2),
+    )
+
+pub returns : goal.returns
+unfolding defaults numbers
+returns c =
+    let w = c.loop-slot in
+    sym (ap (sets w.numbers w.slot) (drop_of_length-le defaults {i = w.slot} (omega arith))) ∙ w.invariant.2

@@ -1,0 +1,7 @@
+-- The power state is what `power_after` promises.
+use borrow.Author.Rules.{rules}
+use Rattle.device.proofs.view.View.after.Goals as goal
+
+pub returns : goal.returns
+returns c =
+    rw c.power_after-power.ensures

@@ -1,0 +1,37 @@
+-- Each return is a branch of the definition.
+use mathlib.Core.Path.{◌≡◌}
+use borrow.Author.Rules.{rules}
+use borrow.Author.Tests.{eq-eqb, ne_eqb, lt-ltb, le-ltb}
+use Rattle.engine.specs.Engine.{link_of}
+use Rattle.diagnosis.specs.Classes.{verdict_class, link_class, head_class}
+use Rattle.diagnosis.proofs.classes.head_class.Goals as goal
+
+pub returns-then-header-ne2 : goal.returns-then-header-ne2
+unfolding head_class link_class link_of
+returns-then-header-ne2 c =
+    rw (ne_eqb _ _ c.if-header-ne2.true)
+
+pub returns-then-links-header : goal.returns-then-links-header
+unfolding head_class link_class link_of
+returns-then-links-header c =
+    rw (eq-eqb _ _ c.if-header-ne2.false, le-ltb _ _ c.if-links-header.true)
+
+pub returns-in-Refuse : goal.returns-in-Refuse
+unfolding head_class link_class link_of
+returns-in-Refuse c =
+    rw ((let h : head_class c.args.links c.args.head.now ≡ verdict_class c.verdict_of.result = rw (eq-eqb _ _ c.if-header-ne2.false, lt-ltb _ _ c.if-links-header.false, c.verdict_of.ensures) in h), c.in-Refuse.is)
+
+pub returns-in-Noop : goal.returns-in-Noop
+unfolding head_class link_class link_of
+returns-in-Noop c =
+    rw ((let h : head_class c.args.links c.args.head.now ≡ verdict_class c.verdict_of.result = rw (eq-eqb _ _ c.if-header-ne2.false, lt-ltb _ _ c.if-links-header.false, c.verdict_of.ensures) in h), c.in-Noop.is)
+
+pub returns-in-Reset : goal.returns-in-Reset
+unfolding head_class link_class link_of
+returns-in-Reset c =
+    rw ((let h : head_class c.args.links c.args.head.now ≡ verdict_class c.verdict_of.result = rw (eq-eqb _ _ c.if-header-ne2.false, lt-ltb _ _ c.if-links-header.false, c.verdict_of.ensures) in h), c.in-Reset.is)
+
+pub returns-in-Reach : goal.returns-in-Reach
+unfolding head_class link_class link_of
+returns-in-Reach c =
+    rw ((let h : head_class c.args.links c.args.head.now ≡ verdict_class c.verdict_of.result = rw (eq-eqb _ _ c.if-header-ne2.false, lt-ltb _ _ c.if-links-header.false, c.verdict_of.ensures) in h), c.in-Reach.is)

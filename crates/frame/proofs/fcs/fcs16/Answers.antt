@@ -1,0 +1,32 @@
+-- The invariant: the register after what is left is the register after the whole. The constant is the table: all of its 256 entries are
+-- computed, once, where it is lent.
+use mathlib.Core.Path.{◌≡◌, refl, sym, ap, ◌∙◌}
+use Prim.Native.Nat.{◌+◌, ◌-◌, ◌≤◌}
+use native.Mathlib.Omega.{arith}
+use lib.ListN.{length, drop}
+use lib.Bits.{bit_xor}
+use Rattle.frame.specs.Fcs.{fcs_bit, fcs_bits, fcs_entries, fcs_table, fcs_from, fcs}
+use Rattle.frame.proofs.LawsFcs.{from_next, from_done}
+use Rattle.frame.proofs.fcs.fcs16.Goals as goal
+
+pub loop-i-init : goal.loop-i-init
+loop-i-init c =
+    (omega arith, refl)
+
+pub fcs_octet-r-requires : goal.fcs_octet-r-requires
+unfolding fcs_table fcs_entries fcs_bits fcs_bit
+fcs_octet-r-requires c =
+    refl
+
+pub loop-i-preserved : goal.loop-i-preserved
+loop-i-preserved c =
+    let w = c.loop-i in
+    let body = c.args.body.now in (
+      omega arith,
+      ap (λ r. fcs_from r (drop (w.i + 1) body)) c.fcs_octet-r.ensures ∙ sym (from_next w.r body w.i (omega arith)) ∙ w.invariant.1,
+    )
+
+pub returns : goal.returns
+unfolding fcs
+returns c =
+    ap (λ r. bit_xor r 0xffff) (sym (from_done _ _ _ c.loop-i-test.false) ∙ c.loop-i.invariant.1)

@@ -1,0 +1,43 @@
+-- Each way out has the tests that `frame_fate` makes.
+use mathlib.Core.Bool.{cond}
+use mathlib.Core.Path.{◌≡◌, sym, ap₂, ◌∙◌}
+use Prim.Native.Nat.{◌-◌, ◌/◌}
+use native.Mathlib.Omega.{arith}
+use borrow.Author.Rules.{rules}
+use borrow.Author.Tests.{eq-eqb, ne_eqb, lt-ltb, le-ltb}
+use lib.Dec.{eqb}
+use lib.Seq.{length-take-le}
+use Rattle.octets.specs.Body.{header_of}
+use Rattle.frame.specs.Fcs.{fcs}
+use Rattle.hdlc.specs.Fate.{checked, unchecked}
+use Rattle.hdlc.specs.Reader.{body_of, check_of, headed, frame_fate}
+use Rattle.hdlc.proofs.LawsFates.{header_gathered}
+use Rattle.hdlc.proofs.reader.frame_fate.Goals as goal
+
+pub returns-then-count-lt4 : goal.returns-then-count-lt4
+unfolding frame_fate
+returns-then-count-lt4 c =
+    rw (lt-ltb _ _ c.if-count-lt4.true)
+
+pub slice_bounds-fcs16-end : goal.slice_bounds-fcs16-end
+slice_bounds-fcs16-end c =
+    sym (length-take-le _ _ (omega arith))
+
+pub returns-then-read_le-fcs16 : goal.returns-then-read_le-fcs16
+unfolding frame_fate check_of body_of
+returns-then-read_le-fcs16 c =
+    rw (
+      le-ltb _ _ c.if-count-lt4.false,
+      (let h : let g = c.args.gathered.now in eqb (check_of g) (fcs (body_of g)) ≡ eqb c.read_le.result c.fcs16.result = sym (ap₂ eqb c.read_le.ensures c.fcs16.ensures) in h),
+      ne_eqb _ _ c.if-read_le-fcs16.true,
+    )
+
+pub returns-then-gathered-ne2 : goal.returns-then-gathered-ne2
+unfolding check_of body_of frame_fate headed
+returns-then-gathered-ne2 c =
+    sym ((let h : let g = c.args.gathered.now in frame_fate g ≡ cond (eqb (header_of g / 64) 2) (checked (body_of g)) (unchecked 6) = let long = c.if-count-lt4.false in rw (le-ltb _ _ long, (let h : let g = c.args.gathered.now in eqb (check_of g) (fcs (body_of g)) ≡ eqb c.read_le.result c.fcs16.result = sym (ap₂ eqb c.read_le.ensures c.fcs16.ensures) in h), eq-eqb _ _ c.if-read_le-fcs16.false, header_gathered _ long) in h) ∙ rw (ne_eqb _ _ c.if-gathered-ne2.true))
+
+pub returns : goal.returns
+unfolding body_of check_of frame_fate headed
+returns c =
+    sym ((let h : let g = c.args.gathered.now in frame_fate g ≡ cond (eqb (header_of g / 64) 2) (checked (body_of g)) (unchecked 6) = let long = c.if-count-lt4.false in rw (le-ltb _ _ long, (let h : let g = c.args.gathered.now in eqb (check_of g) (fcs (body_of g)) ≡ eqb c.read_le.result c.fcs16.result = sym (ap₂ eqb c.read_le.ensures c.fcs16.ensures) in h), eq-eqb _ _ c.if-read_le-fcs16.false, header_gathered _ long) in h) ∙ rw (eq-eqb _ _ c.if-gathered-ne2.false))

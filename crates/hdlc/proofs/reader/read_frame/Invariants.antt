@@ -1,0 +1,23 @@
+-- The invariant: the outcome of what is left, `at` octets later, is that of the whole, and the reader keeps its rules.
+use mathlib.Core.Bool.{true, not}
+use mathlib.Core.Path.{◌≡◌, refl, sym, ap, ◌∙◌}
+use Prim.Native.Nat.{◌-◌, ◌≤◌}
+use native.Mathlib.Omega.{arith}
+use borrow.Author.Rules.{rules}
+use borrow.Author.Tests.{eq-eqb, ne_eqb}
+use lib.ListN.{length, get_or, drop}
+use Rattle.hdlc.specs.Fate.{later}
+use Rattle.hdlc.specs.Reader.{assembling, run}
+use Rattle.hdlc.specs.Rules.{rules}
+use Rattle.hdlc.proofs.LawsReading.{later_zero, run_end, run_next, run_decided}
+use Rattle.hdlc.proofs.ReaderRules.{rules_told, after_rules}
+use Rattle.hdlc.proofs.reader.read_frame.Given as goal
+
+abbrev pub invariant-loop-at : goal.invariant-loop-at
+invariant-loop-at l =
+    (l.at ≤ length l.input) × (length l.assembly ≡ length l.initial.assembly) × (rules l.reader ≡ true)
+    × (later l.at (run (assembling l.reader l.assembly) (drop l.at l.input)) ≡ run (assembling l.initial.reader l.initial.assembly) l.input)
+
+abbrev pub decreases-loop-at : goal.decreases-loop-at
+decreases-loop-at l =
+    length l.input - l.at

@@ -1,0 +1,25 @@
+-- What was written is the engine's reply, whose line fits.
+use mathlib.Core.Path.{refl, sym}
+use native.Mathlib.Omega.{arith}
+use borrow.Author.Rules.{rules}
+use lib.Seq.{length-take-le}
+use Rattle.serial.specs.Receiving.{Result, result_of}
+use Rattle.ncp.proofs.LawsTurns.{Turned, turned}
+use Rattle.ncp.proofs.turn.receive_line.Goals as goal
+
+pub slice_bounds-reply-end : goal.slice_bounds-reply-end
+slice_bounds-reply-end c =
+    ((let h : Turned c.args.device (result_of c.receive_body-received.result c.receive_body-received.new.assembly c.receive_body-received.new.space) = let s = c.args in rw c.receive_body-received.ensures (turned s.device s.reader s.input.now s.assembly.now _) in h)).room
+
+pub slice_bounds-write_line-end : goal.slice_bounds-write_line-end
+slice_bounds-write_line-end c =
+    sym (length-take-le _ _ ((let h : Turned c.args.device (result_of c.receive_body-received.result c.receive_body-received.new.assembly c.receive_body-received.new.space) = let s = c.args in rw c.receive_body-received.ensures (turned s.device s.reader s.input.now s.assembly.now _) in h)).room)
+
+pub write_line-requires : goal.write_line-requires
+write_line-requires c =
+    let f = (let h : Turned c.args.device (result_of c.receive_body-received.result c.receive_body-received.new.assembly c.receive_body-received.new.space) = let s = c.args in rw c.receive_body-received.ensures (turned s.device s.reader s.input.now s.assembly.now _) in h) in rw f.reply (omega (arith, f.short))
+
+pub returns : goal.returns
+returns c =
+    rw (← c.receive_body-received.ensures)
+    (record { read = refl; device = refl; reader = refl; assembly = refl; line = rw ((let h : Turned c.args.device (result_of c.receive_body-received.result c.receive_body-received.new.assembly c.receive_body-received.new.space) = let s = c.args in rw c.receive_body-received.ensures (turned s.device s.reader s.input.now s.assembly.now _) in h)).reply at c.write_line.ensures })

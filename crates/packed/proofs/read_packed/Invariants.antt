@@ -1,0 +1,18 @@
+-- The invariant: what the octets from `next` on stand for, joined to what is read, is the answer.
+use mathlib.Core.Path.{◌≡◌, sym}
+use Prim.Native.Nat.{ℕ, suc, ◌+◌, ◌*◌, ◌-◌, ◌^◌, ◌<◌, ◌≤◌}
+use native.Mathlib.Omega.{arith}
+use native.Mathlib.Nat.{pow-succ'}
+use borrow.Author.Tests.{eq-eqb, ne_eqb}
+use lib.ListN.{get_or, drop}
+use Rattle.packed.specs.Packed.{packed_at, joined, number_in}
+use Rattle.packed.proofs.LawsPacked.{number_none, number_last, number_more, joined_joined, scale_room}
+use Rattle.packed.proofs.read_packed.Given as goal
+
+abbrev pub invariant-loop-left : goal.invariant-loop-left
+invariant-loop-left l =
+    (joined l.n l.scale (number_in l.left l.next (drop l.next l.octets)) ≡ packed_at l.octets l.at) × (l.left ≤ 2) × (l.scale ≤ 128 ^ (3 - l.left)) × (l.n < l.scale)
+
+abbrev pub decreases-loop-left : goal.decreases-loop-left
+decreases-loop-left l =
+    l.left

@@ -1,0 +1,68 @@
+-- Each refusal has the tests of the definition, and the rest is what `read_and_answer` gave, framed.
+use mathlib.Core.Bool.{false}
+use mathlib.Core.Path.{◌≡◌, sym, ◌∙◌}
+use mathlib.Core.List.{List}
+use Prim.Native.Nat.{ℕ}
+use native.Mathlib.Omega.{arith}
+use borrow.Author.Rules.{rules}
+use borrow.Author.Tests.{lt-ltb, le-ltb}
+use lib.ListN.{take}
+use lib.Seq.{length-take-le}
+use Rattle.frame.proofs.FrameBounds.{frame_bounds}
+use Rattle.serial.specs.Receiving.{result_of, breaks_rules, receive, framed}
+use Rattle.serial.proofs.LawsReceiving.{rules_kept, unrefused_framed, Fits, unrefused_fits, framed_none, framed_some}
+use Rattle.serial.proofs.receiving.receive.Goals as goal
+
+pub returns-then-breaks_rules : goal.returns-then-breaks_rules
+unfolding receive
+returns-then-breaks_rules c =
+    rw (sym c.breaks_rules.ensures ∙ c.if-breaks_rules.true, c.without_reply.ensures)
+
+pub returns-then-assembly-lt-MAX_GATHERED : goal.returns-then-assembly-lt-MAX_GATHERED
+unfolding receive
+returns-then-assembly-lt-MAX_GATHERED c =
+    rw (sym c.breaks_rules.ensures ∙ c.if-breaks_rules.false, lt-ltb _ _ c.if-assembly-lt-MAX_GATHERED.true, c.without_reply-then-assembly-lt-MAX_GATHERED.ensures)
+
+pub returns-then-output-lt-MIN_OUTPUT : goal.returns-then-output-lt-MIN_OUTPUT
+unfolding receive
+returns-then-output-lt-MIN_OUTPUT c =
+    rw (
+      sym c.breaks_rules.ensures ∙ c.if-breaks_rules.false,
+      le-ltb _ _ c.if-assembly-lt-MAX_GATHERED.false,
+      lt-ltb _ _ c.if-output-lt-MIN_OUTPUT.true,
+      c.without_reply-then-output-lt-MIN_OUTPUT.ensures,
+    )
+
+pub read_and_answer-received-requires : goal.read_and_answer-received-requires
+unfolding receive
+read_and_answer-received-requires c =
+    record { rules = rules_kept _ _ (sym c.breaks_rules.ensures ∙ c.if-breaks_rules.false); room = search rules }
+
+pub slice_bounds-reply-end : goal.slice_bounds-reply-end
+unfolding receive
+slice_bounds-reply-end c =
+    ((let h : Fits (result_of c.read_and_answer-received.result c.read_and_answer-received.new.assembly c.read_and_answer-received.new.space) = rw c.read_and_answer-received.ensures (unrefused_fits _ _ _ (rules_kept _ _ (let h : breaks_rules c.args.device c.args.reader ≡ false = sym c.breaks_rules.ensures ∙ c.if-breaks_rules.false in h)).0) in h)).within
+
+pub slice_bounds-write_frame-end : goal.slice_bounds-write_frame-end
+unfolding receive
+slice_bounds-write_frame-end c =
+    sym (length-take-le _ _ ((let h : Fits (result_of c.read_and_answer-received.result c.read_and_answer-received.new.assembly c.read_and_answer-received.new.space) = rw c.read_and_answer-received.ensures (unrefused_fits _ _ _ (rules_kept _ _ (let h : breaks_rules c.args.device c.args.reader ≡ false = sym c.breaks_rules.ensures ∙ c.if-breaks_rules.false in h)).0) in h)).within)
+
+pub write_frame-requires : goal.write_frame-requires
+unfolding receive
+write_frame-requires c =
+    let f = (let h : Fits (result_of c.read_and_answer-received.result c.read_and_answer-received.new.assembly c.read_and_answer-received.new.space) = rw c.read_and_answer-received.ensures (unrefused_fits _ _ _ (rules_kept _ _ (let h : breaks_rules c.args.device c.args.reader ≡ false = sym c.breaks_rules.ensures ∙ c.if-breaks_rules.false in h)).0) in h) in let size = length-take-le (c.read_and_answer-received.result.written) (c.read_and_answer-received.new.space) f.within in
+    let some = f.least c.if-len-gt0.true in
+    ((omega arith, omega arith), omega (arith, frame_bounds (take (c.read_and_answer-received.result.written) (c.read_and_answer-received.new.space)), c.if-output-lt-MIN_OUTPUT))
+
+pub returns-then-len-gt0 : goal.returns-then-len-gt0
+unfolding receive
+returns-then-len-gt0 c =
+    sym
+    ((let h : let call = c.read_and_answer-received in receive c.args.device c.args.reader c.args.input.now c.args.assembly.now c.args.output.now ≡ framed (result_of call.result call.new.assembly c.read_and_answer-received.new.space) c.args.output.now = rw ((let h : breaks_rules c.args.device c.args.reader ≡ false = sym c.breaks_rules.ensures ∙ c.if-breaks_rules.false in h), le-ltb _ _ c.if-assembly-lt-MAX_GATHERED.false, le-ltb _ _ c.if-output-lt-MIN_OUTPUT.false, c.read_and_answer-received.ensures) (unrefused_framed _ _ _ _ (rules_kept _ _ (let h : breaks_rules c.args.device c.args.reader ≡ false = sym c.breaks_rules.ensures ∙ c.if-breaks_rules.false in h)).0) in h)
+    ∙ framed_some c.read_and_answer-received.result _ (c.read_and_answer-received.new.space) _ c.if-len-gt0.true c.write_frame.ensures)
+
+pub returns-else-len-gt0 : goal.returns-else-len-gt0
+unfolding receive
+returns-else-len-gt0 c =
+    sym ((let h : let call = c.read_and_answer-received in receive c.args.device c.args.reader c.args.input.now c.args.assembly.now c.args.output.now ≡ framed (result_of call.result call.new.assembly c.read_and_answer-received.new.space) c.args.output.now = rw ((let h : breaks_rules c.args.device c.args.reader ≡ false = sym c.breaks_rules.ensures ∙ c.if-breaks_rules.false in h), le-ltb _ _ c.if-assembly-lt-MAX_GATHERED.false, le-ltb _ _ c.if-output-lt-MIN_OUTPUT.false, c.read_and_answer-received.ensures) (unrefused_framed _ _ _ _ (rules_kept _ _ (let h : breaks_rules c.args.device c.args.reader ≡ false = sym c.breaks_rules.ensures ∙ c.if-breaks_rules.false in h)).0) in h) ∙ framed_none c.read_and_answer-received.result _ (c.read_and_answer-received.new.space) _ (omega (arith, c.if-len-gt0.false)))

@@ -1,0 +1,58 @@
+-- Each refusal has the tests of the definition; a checked body goes to the table.
+use mathlib.Core.Bool.{false}
+use mathlib.Core.Path.{◌≡◌, sym, ap, ◌∙◌}
+use mathlib.Core.List.{List}
+use Prim.Native.Nat.{ℕ, ◌≤◌}
+use borrow.Author.Rules.{rules}
+use lib.ListN.{length, take}
+use lib.Seq.{length-take-le}
+use Rattle.octets.specs.Body.{SpinelBody}
+use Rattle.hdlc.specs.declared.reader.Fate.TheVariants.{Checked}
+use Rattle.hdlc.specs.Reader.{assembling, outcome, Outcome, run}
+use Rattle.hdlc.proofs.ReaderRules.{rules_told}
+use Rattle.hdlc.proofs.CheckedBodies.{checked_count, tag_unchecked}
+use Rattle.transactions.specs.Table.{Numbers, numbers_of}
+use Rattle.transactions.specs.Receiving.{told, unrefused, breaks_rules, receive}
+use Rattle.transactions.proofs.LawsReceiving.{rules_kept, receive_11, receive_12, receive_run}
+use borrow.Enum.Refused.{opened}
+use Rattle.transactions.proofs.receiving.receive.Goals as goal
+
+pub returns-then-breaks_rules : goal.returns-then-breaks_rules
+unfolding unrefused
+returns-then-breaks_rules c =
+    rw c.untold.ensures (sym (receive_11 _ _ _ _ (sym c.breaks_rules.ensures ∙ c.if-breaks_rules.true)))
+
+pub returns-then-assembly-lt-MAX_GATHERED : goal.returns-then-assembly-lt-MAX_GATHERED
+unfolding unrefused
+returns-then-assembly-lt-MAX_GATHERED c =
+    rw c.untold-then-assembly-lt-MAX_GATHERED.ensures (sym (receive_12 _ _ _ _ (sym c.breaks_rules.ensures ∙ c.if-breaks_rules.false) c.if-assembly-lt-MAX_GATHERED.true))
+
+pub read_frame-reading-requires : goal.read_frame-reading-requires
+unfolding unrefused
+read_frame-reading-requires c =
+    ((rules_kept _ _ (sym c.breaks_rules.ensures ∙ c.if-breaks_rules.false)).1, c.if-assembly-lt-MAX_GATHERED.false)
+
+pub slice_bounds-reply-end : goal.slice_bounds-reply-end
+unfolding unrefused
+slice_bounds-reply-end c =
+    ((let h : SpinelBody (take c.in-Checked.len (c.read_frame-reading.new.assembly c)) × (c.in-Checked.len ≤ length (c.read_frame-reading.new.assembly c)) = checked_count _ _ _ (rules_told _ (rules_kept _ _ ((let h : breaks_rules (numbers_of c.args.table) c.args.reader ≡ false = sym c.breaks_rules.ensures ∙ c.if-breaks_rules.false in h) c)).1) c.if-assembly-lt-MAX_GATHERED.false (let h : let r = c.read_frame-reading.result in outcome (Checked c.in-Checked.len) r.read r.reader (c.read_frame-reading.new.assembly c) ≡ (run (assembling c.args.reader c.args.assembly.now) c.args.input.now) c = let r = c.read_frame-reading.result in ap (λ f. outcome f r.read r.reader (c.read_frame-reading.new.assembly c)) (sym c.in-Checked.is) ∙ c.read_frame-reading.ensures in h) in h)).1
+
+pub slice_bounds-reply-end-in-Checked : goal.slice_bounds-reply-end-in-Checked
+unfolding unrefused
+slice_bounds-reply-end-in-Checked c =
+    sym (length-take-le _ _ ((let h : SpinelBody (take c.in-Checked.len (c.read_frame-reading.new.assembly c)) × (c.in-Checked.len ≤ length (c.read_frame-reading.new.assembly c)) = checked_count _ _ _ (rules_told _ (rules_kept _ _ ((let h : breaks_rules (numbers_of c.args.table) c.args.reader ≡ false = sym c.breaks_rules.ensures ∙ c.if-breaks_rules.false in h) c)).1) c.if-assembly-lt-MAX_GATHERED.false (let h : let r = c.read_frame-reading.result in outcome (Checked c.in-Checked.len) r.read r.reader (c.read_frame-reading.new.assembly c) ≡ (run (assembling c.args.reader c.args.assembly.now) c.args.input.now) c = let r = c.read_frame-reading.result in ap (λ f. outcome f r.read r.reader (c.read_frame-reading.new.assembly c)) (sym c.in-Checked.is) ∙ c.read_frame-reading.ensures in h) in h)).1)
+
+pub returns-in-Checked : goal.returns-in-Checked
+unfolding unrefused
+returns-in-Checked c =
+    let r = c.read_frame-reading.result in
+    ap (told (outcome (Checked (c.in-Checked.len)) r.read r.reader (assembly c))) c.reply-step.ensures
+    ∙ ap (unrefused (numbers c)) ((let h : let r = c.read_frame-reading.result in outcome (Checked c.in-Checked.len) r.read r.reader (c.read_frame-reading.new.assembly c) ≡ (run (assembling c.args.reader c.args.assembly.now) c.args.input.now) c = let r = c.read_frame-reading.result in ap (λ f. outcome f r.read r.reader (c.read_frame-reading.new.assembly c)) (sym c.in-Checked.is) ∙ c.read_frame-reading.ensures in h))
+    ∙ sym (rest c)
+
+pub returns : goal.returns
+unfolding unrefused
+returns c =
+    let read = c.read_frame-reading in
+    let t = tag_unchecked read.result.fate (c.read_frame-reading.new.assembly) (opened c.in_default.in_default-own.keys2) in
+    rw (c.untold-2.ensures, (let h : receive (numbers_of c.args.table) c.args.reader c.args.input.now c.args.assembly.now ≡ unrefused (numbers_of c.args.table) (run (assembling c.args.reader c.args.assembly.now) c.args.input.now) = receive_run (numbers_of c.args.table) c.args.reader c.args.input.now c.args.assembly.now (let h : breaks_rules (numbers_of c.args.table) c.args.reader ≡ false = sym c.breaks_rules.ensures ∙ c.if-breaks_rules.false in h) c.if-assembly-lt-MAX_GATHERED.false dule _ (c : tie.After-known-told) where in h), ← read.ensures, t.0)

@@ -1,0 +1,41 @@
+-- Each way out has the tests that `after_open` makes; the number handed out is free, so that it gets the mark of one that waits.
+use mathlib.Core.Path.{◌≡◌, sym, ap, ◌∙◌}
+use Prim.Native.Nat.{ℕ}
+use borrow.Author.Rules.{rules}
+use borrow.Author.Tests.{not-true, not-false}
+use Rattle.transactions.specs.declared.table.Table.{Table}
+use lib.ListN.{set}
+use Rattle.transactions.specs.Answer.{opened}
+use Rattle.transactions.specs.NumberSet.{digits}
+use Rattle.transactions.specs.Table.{numbers_of, mark_at, waiting, put, done, refused, lowest, after_open}
+use Rattle.transactions.proofs.LawsTable.{table, numbers_put, gave_kept, lowest_free, free_gave, resetting_is}
+use Rattle.transactions.proofs.LawsCalls.{open_11, open_33, open_31, open_done}
+use Rattle.transactions.proofs.table.Table.open.Goals as goal
+
+opens : (t : Table) (n w : ℕ) → n ≡ lowest (numbers_of t) → digits 16 w ≡ set (digits 16 t.waiting) n 1
+    → numbers_of (table w t.given_up t.resetting) ≡ put (numbers_of t) n waiting
+opens t n w e with-n =
+    let f = free_gave t n (ap (mark_at (numbers_of t)) e ∙ lowest_free (numbers_of t)) in
+    numbers_put t n 1 0 w t.given_up with-n (gave_kept t n f)
+
+pub returns-then-not-keeps_rules : goal.returns-then-not-keeps_rules
+returns-then-not-keeps_rules c =
+    c.refused.ensures ∙ sym (open_11 _ (sym c.keeps_rules.ensures ∙ not-true _ c.if-not-keeps_rules.true))
+
+pub returns-then-self : goal.returns-then-self
+returns-then-self c =
+    c.refused-then-self.ensures ∙ sym (open_33 _ (sym c.keeps_rules.ensures ∙ not-false _ c.if-not-keeps_rules.false) (resetting_is _ c.if-self.true))
+
+pub returns-then-number-gt-MAX_NUMBER : goal.returns-then-number-gt-MAX_NUMBER
+returns-then-number-gt-MAX_NUMBER c =
+    let low = c.lowest_free-number.ensures in
+    c.refused-then-number-gt-MAX_NUMBER.ensures
+    ∙ sym (open_31 _ (sym c.keeps_rules.ensures ∙ not-false _ c.if-not-keeps_rules.false) (resetting_is _ c.if-self.false) (rw (← low) c.if-number-gt-MAX_NUMBER.true))
+
+pub returns : goal.returns
+returns c =
+    let low = c.lowest_free-number.ensures in
+    let t = c.args.self in let n = c.lowest_free-number.result in
+    ap (done opened n) (opens t n c.with.result low c.with.ensures)
+    ∙ ap (λ k. done opened k (put (numbers_of t) k waiting)) low
+    ∙ sym (open_done _ (sym c.keeps_rules.ensures ∙ not-false _ c.if-not-keeps_rules.false) (resetting_is _ c.if-self.false) (rw (← low) c.if-number-gt-MAX_NUMBER.false))
