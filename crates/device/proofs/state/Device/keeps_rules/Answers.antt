@@ -1,5 +1,5 @@
 -- The number of links is the type's; each return is a test of the definition.
-use borrow.Author.Rules.{rules}
+use borrow.Author.Rules.{rules as found}
 use borrow.Author.Tests.{eq-eqb}
 use mathlib.Core.Path.{◌≡◌, sym, ◌∙◌}
 use mathlib.Core.Bool.{true}
@@ -20,7 +20,7 @@ pub returns-then-is_within : goal.returns-then-is_within
 unfolding rules
 returns-then-is_within c =
     let within = rw c.power_state.ensures at (sym c.is_within.ensures ∙ c.if-is_within.true) in
-    rw (sym c.keep_rules.ensures ∙ c.if-keep_rules.true, within, (let h : eqb (length c.args.self.links) 4 ≡ true = let size : length c.args.self.links ≡ max_links = search (rules, mapped) in eq-eqb _ _ size in h), c.links_keep.ensures)
+    rw (sym c.keep_rules.ensures ∙ c.if-keep_rules.true, within, (let h : eqb (length c.args.self.links) 4 ≡ true = let size : length c.args.self.links ≡ max_links = search (found, mapped) in eq-eqb _ _ size in h), c.links_keep.ensures)
 
 pub returns-else-is_within : goal.returns-else-is_within
 unfolding rules
