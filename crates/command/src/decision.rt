@@ -47,8 +47,8 @@ fn conclude(
     payload: &[u8],
     out: &mut [u8],
 ) -> Decided
-    requires settings_value { (settings_rule view.settings ≡ true) × (link_rule link ≡ true) × (row_rule row ≡ true) }
-    requires max_reply_in_bounds { (max_reply ≤ length out.old) × (length (content (after view effect link) command row.kind payload.now) ≤ max_content) }
+    requires rules { (settings_rule view.settings ≡ true) × (link_rule link ≡ true) × (row_rule row ≡ true) }
+    requires room { (max_reply ≤ length out.old) × (length (content (after view effect link) command row.kind payload.now) ≤ max_content) }
     ensures { Did (decision_of view header (performed view header command row payload.now link effect)) result out.old out.new }
 {
     let len = write_reply(out, view.after(effect, link), header, command, row, payload);

@@ -41,8 +41,8 @@ fn write_content(
     row: Row,
     payload: &[u8],
 ) -> usize
-    requires settings_value { (settings_rule view.settings ≡ true) × (link_rule view.link ≡ true) × (row_rule row ≡ true) }
-    requires max_content_in_bounds { (at + max_content ≤ length out.old) × (at + length (content view command row.kind payload.now) ≤ length out.old) }
+    requires rules { (settings_rule view.settings ≡ true) × (link_rule view.link ≡ true) × (row_rule row ≡ true) }
+    requires room { (at + max_content ≤ length out.old) × (at + length (content view command row.kind payload.now) ≤ length out.old) }
     ensures { Wrote out.old out.new at result (content view command row.kind payload.now) }
 {
     match command {
@@ -61,8 +61,8 @@ pub fn write_reply(
     row: Row,
     payload: &[u8],
 ) -> usize
-    requires settings_value { (settings_rule view.settings ≡ true) × (link_rule view.link ≡ true) × (row_rule row ≡ true) }
-    requires max_reply_in_bounds { (max_reply ≤ length out.old) × (length (content view command row.kind payload.now) ≤ max_content) }
+    requires rules { (settings_rule view.settings ≡ true) × (link_rule view.link ≡ true) × (row_rule row ≡ true) }
+    requires room { (max_reply ≤ length out.old) × (length (content view command row.kind payload.now) ≤ max_content) }
     ensures { Wrote out.old out.new 0 result (success_reply view header command row payload.now) }
 {
     let header_end = write_octet(out, 0, header);

@@ -62,7 +62,7 @@ hears d o =
 
 reports_append : (d : Numbers) (bs cs : List (List ℕ)) → bodies_report d (bs ++ cs) ≡ bodies_report d bs ++ bodies_report (bodies_leave d bs) cs
 unfolding bodies_report bodies_leave
-reports_append d bs cs = emitted_append _ _ d bs cs
+reports_append d bs cs = emitted_append (λ t b. (after_reply t b).report ∷ []) (λ t b. (after_reply t b).numbers) d bs cs
 
 leave_append : (d : Numbers) (bs cs : List (List ℕ)) → bodies_leave d (bs ++ cs) ≡ bodies_leave (bodies_leave d bs) cs
 unfolding bodies_leave

@@ -17,8 +17,5 @@ pub mod LawsReceiving
 pub mod HeardInOrder
 pub mod LawsWriting
 pub mod WrittenCommands
-pub mod LawsMeets
-pub mod LawsInPlace
-pub mod LawsLent
 pub mod WorkedRun
 pub mod HostReceives

@@ -7,7 +7,7 @@ use Rattle.command.proofs.decision.conclude.Goals as goal
 pub write_reply-len-requires : goal.write_reply-len-requires
 unfolding decision_of
 write_reply-len-requires c =
-    rw c.after.ensures (c.requires.settings_value, (search rules, c.requires.max_reply_in_bounds.1))
+    rw c.after.ensures (record { rules = c.requires.rules; room = (search rules, c.requires.room.1) })
 
 pub returns : goal.returns
 unfolding decision_of

@@ -14,7 +14,7 @@ conclude-requires c =
     let kept = perform_kept a.view.link c.requires.1 a.command a.row.kind a.payload.now (λ slot k. slot_below a.row slot k rule) in
     let done = rw c.perform_on-performed.ensures at c.in-Done.is in
     let few = content_size a.view a.command a.row a.payload.now _ c.requires.0 c.requires.1 rule done in
-    rw c.perform_on-performed.ensures ((c.requires.0, link_from _ kept.facts, rule), (search rules, few))
+    rw c.perform_on-performed.ensures (record { rules = (c.requires.0, link_from _ kept.facts, rule); room = (search rules, few) })
 
 pub returns-in-Refused : goal.returns-in-Refused
 unfolding reached concluded decision_of

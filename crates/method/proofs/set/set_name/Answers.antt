@@ -26,10 +26,6 @@ returns-then-end-payload c =
     let first = c.find_octet-end.ensures ∙ zero-add _ in
     rw (ne_eqb (suc (before 0 p)) (length p) (λ q. omega arith), c.refused.ensures)
 
-pub is_text-requires : goal.is_text-requires
-is_text-requires c =
-    sym (length-take-le _ _ (omega arith))
-
 pub of-name-requires : goal.of-name-requires
 of-name-requires c =
     omega (arith, text_told max_name _ (sym c.is_text.ensures ∙ c.if-is_text.true))

@@ -6,12 +6,12 @@ use Rattle.reply.proofs.reply.write_content.Goals as goal
 pub write_octets-requires : goal.write_octets-requires
 unfolding content
 write_octets-requires c =
-    rw c.in-Insert.is at c.requires.max_content_in_bounds.1
+    rw c.in-Insert.is at c.requires.room.1
 
 pub write_octets-requires-in-Remove : goal.write_octets-requires-in-Remove
 unfolding content
 write_octets-requires-in-Remove c =
-    rw c.in-Remove.is at c.requires.max_content_in_bounds.1
+    rw c.in-Remove.is at c.requires.room.1
 
 pub returns-in-Get : goal.returns-in-Get
 unfolding content

@@ -10,14 +10,14 @@ use Rattle.reply.proofs.reply.write_reply.Goals as goal
 pub write_packed-start-requires : goal.write_packed-start-requires
 unfolding success_reply
 write_packed-start-requires c =
-    let low = small_id c.args.row c.requires.settings_value.2 in
+    let low = small_id c.args.row c.requires.rules.2 in
     (omega arith, omega (arith, packed_size c.args.row.id, c.write_octet-header_end.ensures.end, c.write_octet-command_end.ensures.end))
 
 pub write_content-requires : goal.write_content-requires
 unfolding success_reply
 write_content-requires c =
     let few = packed_size c.args.row.id in let first = c.write_octet-header_end.ensures.end in let second = c.write_octet-command_end.ensures.end in
-    record { settings_value = c.requires.settings_value; max_content_in_bounds = (omega (arith, c.write_packed-start.ensures.end), omega (arith, c.write_packed-start.ensures.end)) }
+    record { rules = c.requires.rules; room = (omega (arith, c.write_packed-start.ensures.end), omega (arith, c.write_packed-start.ensures.end)) }
 
 pub returns : goal.returns
 unfolding success_reply

@@ -42,11 +42,11 @@ returns-in-Checked c =
       number = 1;
       request = take (c.in-Checked.len) (c.read_frame-reading.last.1.1.0);
       read = r.read;
-      written = front_count ((let h : length ((engine (start c).args.device (take (count c) (assembly c))).reply) ≤ length (start c).args.space.now = let b = reply_bounds (start c).args.device (take (count c) (assembly c)) (start c).pre.0.0 in omega arith in h)) w.1 i;
+      written = front_count ((let h : length ((engine c.args.device (take (c.in-Checked.len) (c.read_frame-reading.last.1.1.0))).reply) ≤ length c.args.space.now = let b = reply_bounds c.args.device (take (c.in-Checked.len) (c.read_frame-reading.last.1.1.0)) c.pre.0.0 in omega arith in h)) w.1 i;
       device = w.0 i;
       reader = r.reader;
       assembly = c.read_frame-reading.last.1.1.0;
-      output = front_held ((let h : length ((engine (start c).args.device (take (count c) (assembly c))).reply) ≤ length (start c).args.space.now = let b = reply_bounds (start c).args.device (take (count c) (assembly c)) (start c).pre.0.0 in omega arith in h)) w.1 i;
+      output = front_held ((let h : length ((engine c.args.device (take (c.in-Checked.len) (c.read_frame-reading.last.1.1.0))).reply) ≤ length c.args.space.now = let b = reply_bounds c.args.device (take (c.in-Checked.len) (c.read_frame-reading.last.1.1.0)) c.pre.0.0 in omega arith in h)) w.1 i;
     })
 
 pub returns : goal.returns

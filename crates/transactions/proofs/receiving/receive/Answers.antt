@@ -35,24 +35,24 @@ read_frame-reading-requires c =
 pub slice_bounds-reply-end : goal.slice_bounds-reply-end
 unfolding unrefused
 slice_bounds-reply-end c =
-    ((let h : SpinelBody (take c.in-Checked.len (c.read_frame-reading.new.assembly c)) × (c.in-Checked.len ≤ length (c.read_frame-reading.new.assembly c)) = checked_count _ _ _ (rules_told _ (rules_kept _ _ ((let h : breaks_rules (numbers_of c.args.table) c.args.reader ≡ false = sym c.breaks_rules.ensures ∙ c.if-breaks_rules.false in h) c)).1) c.if-assembly-lt-MAX_GATHERED.false (let h : let r = c.read_frame-reading.result in outcome (Checked c.in-Checked.len) r.read r.reader (c.read_frame-reading.new.assembly c) ≡ (run (assembling c.args.reader c.args.assembly.now) c.args.input.now) c = let r = c.read_frame-reading.result in ap (λ f. outcome f r.read r.reader (c.read_frame-reading.new.assembly c)) (sym c.in-Checked.is) ∙ c.read_frame-reading.ensures in h) in h)).1
+    ((let h : SpinelBody (take c.in-Checked.len (c.read_frame-reading.new.assembly)) × (c.in-Checked.len ≤ length (c.read_frame-reading.new.assembly)) = checked_count _ _ _ (rules_told _ (rules_kept _ _ ((let h : breaks_rules (numbers_of c.args.table) c.args.reader ≡ false = sym c.breaks_rules.ensures ∙ c.if-breaks_rules.false in h))).1) c.if-assembly-lt-MAX_GATHERED.false (let h : let r = c.read_frame-reading.result in outcome (Checked c.in-Checked.len) r.read r.reader (c.read_frame-reading.new.assembly) ≡ (run (assembling c.args.reader c.args.assembly.now) c.args.input.now) = let r = c.read_frame-reading.result in ap (λ f. outcome f r.read r.reader (c.read_frame-reading.new.assembly)) (sym c.in-Checked.is) ∙ c.read_frame-reading.ensures in h) in h)).1
 
 pub slice_bounds-reply-end-in-Checked : goal.slice_bounds-reply-end-in-Checked
 unfolding unrefused
 slice_bounds-reply-end-in-Checked c =
-    sym (length-take-le _ _ ((let h : SpinelBody (take c.in-Checked.len (c.read_frame-reading.new.assembly c)) × (c.in-Checked.len ≤ length (c.read_frame-reading.new.assembly c)) = checked_count _ _ _ (rules_told _ (rules_kept _ _ ((let h : breaks_rules (numbers_of c.args.table) c.args.reader ≡ false = sym c.breaks_rules.ensures ∙ c.if-breaks_rules.false in h) c)).1) c.if-assembly-lt-MAX_GATHERED.false (let h : let r = c.read_frame-reading.result in outcome (Checked c.in-Checked.len) r.read r.reader (c.read_frame-reading.new.assembly c) ≡ (run (assembling c.args.reader c.args.assembly.now) c.args.input.now) c = let r = c.read_frame-reading.result in ap (λ f. outcome f r.read r.reader (c.read_frame-reading.new.assembly c)) (sym c.in-Checked.is) ∙ c.read_frame-reading.ensures in h) in h)).1)
+    sym (length-take-le _ _ ((let h : SpinelBody (take c.in-Checked.len (c.read_frame-reading.new.assembly)) × (c.in-Checked.len ≤ length (c.read_frame-reading.new.assembly)) = checked_count _ _ _ (rules_told _ (rules_kept _ _ ((let h : breaks_rules (numbers_of c.args.table) c.args.reader ≡ false = sym c.breaks_rules.ensures ∙ c.if-breaks_rules.false in h))).1) c.if-assembly-lt-MAX_GATHERED.false (let h : let r = c.read_frame-reading.result in outcome (Checked c.in-Checked.len) r.read r.reader (c.read_frame-reading.new.assembly) ≡ (run (assembling c.args.reader c.args.assembly.now) c.args.input.now) = let r = c.read_frame-reading.result in ap (λ f. outcome f r.read r.reader (c.read_frame-reading.new.assembly)) (sym c.in-Checked.is) ∙ c.read_frame-reading.ensures in h) in h)).1)
 
 pub returns-in-Checked : goal.returns-in-Checked
 unfolding unrefused
 returns-in-Checked c =
     let r = c.read_frame-reading.result in
-    ap (told (outcome (Checked (c.in-Checked.len)) r.read r.reader (assembly c))) c.reply-step.ensures
-    ∙ ap (unrefused (numbers c)) ((let h : let r = c.read_frame-reading.result in outcome (Checked c.in-Checked.len) r.read r.reader (c.read_frame-reading.new.assembly c) ≡ (run (assembling c.args.reader c.args.assembly.now) c.args.input.now) c = let r = c.read_frame-reading.result in ap (λ f. outcome f r.read r.reader (c.read_frame-reading.new.assembly c)) (sym c.in-Checked.is) ∙ c.read_frame-reading.ensures in h))
-    ∙ sym (rest c)
+    ap (told (outcome (Checked (c.in-Checked.len)) r.read r.reader (c.read_frame-reading.new.assembly))) c.reply-step.ensures
+    ∙ ap (unrefused ((numbers_of c.args.table))) ((let h : let r = c.read_frame-reading.result in outcome (Checked c.in-Checked.len) r.read r.reader (c.read_frame-reading.new.assembly) ≡ (run (assembling c.args.reader c.args.assembly.now) c.args.input.now) = let r = c.read_frame-reading.result in ap (λ f. outcome f r.read r.reader (c.read_frame-reading.new.assembly)) (sym c.in-Checked.is) ∙ c.read_frame-reading.ensures in h))
+    ∙ sym ((let h : receive (numbers_of c.args.table) c.args.reader c.args.input.now c.args.assembly.now ≡ unrefused (numbers_of c.args.table) (run (assembling c.args.reader c.args.assembly.now) c.args.input.now) = receive_run (numbers_of c.args.table) c.args.reader c.args.input.now c.args.assembly.now (let h : breaks_rules (numbers_of c.args.table) c.args.reader ≡ false = sym c.breaks_rules.ensures ∙ c.if-breaks_rules.false in h) c.if-assembly-lt-MAX_GATHERED.false in h))
 
 pub returns : goal.returns
 unfolding unrefused
 returns c =
     let read = c.read_frame-reading in
     let t = tag_unchecked read.result.fate (c.read_frame-reading.new.assembly) (opened c.in_default.in_default-own.keys2) in
-    rw (c.untold-2.ensures, (let h : receive (numbers_of c.args.table) c.args.reader c.args.input.now c.args.assembly.now ≡ unrefused (numbers_of c.args.table) (run (assembling c.args.reader c.args.assembly.now) c.args.input.now) = receive_run (numbers_of c.args.table) c.args.reader c.args.input.now c.args.assembly.now (let h : breaks_rules (numbers_of c.args.table) c.args.reader ≡ false = sym c.breaks_rules.ensures ∙ c.if-breaks_rules.false in h) c.if-assembly-lt-MAX_GATHERED.false dule _ (c : tie.After-known-told) where in h), ← read.ensures, t.0)
+    rw (c.untold-2.ensures, (let h : receive (numbers_of c.args.table) c.args.reader c.args.input.now c.args.assembly.now ≡ unrefused (numbers_of c.args.table) (run (assembling c.args.reader c.args.assembly.now) c.args.input.now) = receive_run (numbers_of c.args.table) c.args.reader c.args.input.now c.args.assembly.now (let h : breaks_rules (numbers_of c.args.table) c.args.reader ≡ false = sym c.breaks_rules.ensures ∙ c.if-breaks_rules.false in h) c.if-assembly-lt-MAX_GATHERED.false in h), ← read.ensures, t.0)

@@ -20,17 +20,17 @@ opens t n w e with-n =
 
 pub returns-then-not-keeps_rules : goal.returns-then-not-keeps_rules
 returns-then-not-keeps_rules c =
-    c.refused.ensures ∙ sym (open_11 _ (sym c.keeps_rules.ensures ∙ not-true _ c.if-not-keeps_rules.true))
+    c.refused.ensures ∙ sym (open_11 _ (sym c.keeps_rules.ensures ∙ c.if-not-keeps_rules.true))
 
 pub returns-then-self : goal.returns-then-self
 returns-then-self c =
-    c.refused-then-self.ensures ∙ sym (open_33 _ (sym c.keeps_rules.ensures ∙ not-false _ c.if-not-keeps_rules.false) (resetting_is _ c.if-self.true))
+    c.refused-then-self.ensures ∙ sym (open_33 _ (sym c.keeps_rules.ensures ∙ c.if-not-keeps_rules.false) (resetting_is _ c.if-self.true))
 
 pub returns-then-number-gt-MAX_NUMBER : goal.returns-then-number-gt-MAX_NUMBER
 returns-then-number-gt-MAX_NUMBER c =
     let low = c.lowest_free-number.ensures in
     c.refused-then-number-gt-MAX_NUMBER.ensures
-    ∙ sym (open_31 _ (sym c.keeps_rules.ensures ∙ not-false _ c.if-not-keeps_rules.false) (resetting_is _ c.if-self.false) (rw (← low) c.if-number-gt-MAX_NUMBER.true))
+    ∙ sym (open_31 _ (sym c.keeps_rules.ensures ∙ c.if-not-keeps_rules.false) (resetting_is _ c.if-self.false) (rw (← low) c.if-number-gt-MAX_NUMBER.true))
 
 pub returns : goal.returns
 returns c =
@@ -38,4 +38,4 @@ returns c =
     let t = c.args.self in let n = c.lowest_free-number.result in
     ap (done opened n) (opens t n c.with.result low c.with.ensures)
     ∙ ap (λ k. done opened k (put (numbers_of t) k waiting)) low
-    ∙ sym (open_done _ (sym c.keeps_rules.ensures ∙ not-false _ c.if-not-keeps_rules.false) (resetting_is _ c.if-self.false) (rw (← low) c.if-number-gt-MAX_NUMBER.false))
+    ∙ sym (open_done _ (sym c.keeps_rules.ensures ∙ c.if-not-keeps_rules.false) (resetting_is _ c.if-self.false) (rw (← low) c.if-number-gt-MAX_NUMBER.false))

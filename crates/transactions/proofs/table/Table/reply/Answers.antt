@@ -10,16 +10,16 @@ use Rattle.transactions.proofs.table.Table.reply.Goals as goal
 
 pub returns-then-not-keeps_rules : goal.returns-then-not-keeps_rules
 returns-then-not-keeps_rules c =
-    c.refused.ensures ∙ sym (reply_11 _ _ (sym c.keeps_rules.ensures ∙ not-true _ c.if-not-keeps_rules.true))
+    c.refused.ensures ∙ sym (reply_11 _ _ (sym c.keeps_rules.ensures ∙ c.if-not-keeps_rules.true))
 
 pub reply_to-requires : goal.reply_to-requires
 reply_to-requires c =
-    (reply_below _ _ (sym c.kind_of.ensures ∙ c.in-Reply.is), sym c.keeps_rules.ensures ∙ not-false _ c.if-not-keeps_rules.false)
+    (reply_below _ _ (sym c.kind_of.ensures ∙ c.in-Reply.is), sym c.keeps_rules.ensures ∙ c.if-not-keeps_rules.false)
 
 pub returns-in-Announcement : goal.returns-in-Announcement
 returns-in-Announcement c =
     rw (
-      reply_by _ (sym c.keeps_rules.ensures ∙ not-false _ c.if-not-keeps_rules.false) _,
+      reply_by _ (sym c.keeps_rules.ensures ∙ c.if-not-keeps_rules.false) _,
       sym c.kind_of.ensures ∙ c.in-Announcement.is,
     )
     (ap (done announced 0) c.fresh.ensures)
@@ -27,7 +27,7 @@ returns-in-Announcement c =
 pub returns-in-Reply : goal.returns-in-Reply
 returns-in-Reply c =
     rw (
-      reply_by _ (sym c.keeps_rules.ensures ∙ not-false _ c.if-not-keeps_rules.false) _,
+      reply_by _ (sym c.keeps_rules.ensures ∙ c.if-not-keeps_rules.false) _,
       sym c.kind_of.ensures ∙ c.in-Reply.is,
     )
     c.reply_to.ensures
@@ -35,6 +35,6 @@ returns-in-Reply c =
 pub returns-in-Other : goal.returns-in-Other
 returns-in-Other c =
     rw (
-      reply_by _ (sym c.keeps_rules.ensures ∙ not-false _ c.if-not-keeps_rules.false) _,
+      reply_by _ (sym c.keeps_rules.ensures ∙ c.if-not-keeps_rules.false) _,
       sym c.kind_of.ensures ∙ c.in-Other.is,
     )

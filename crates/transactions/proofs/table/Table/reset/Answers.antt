@@ -9,14 +9,14 @@ use Rattle.transactions.proofs.table.Table.reset.Goals as goal
 pub returns-then-not-keeps_rules : goal.returns-then-not-keeps_rules
 unfolding numbers_of
 returns-then-not-keeps_rules c =
-    c.refused.ensures ∙ sym (reset_11 _ (sym c.keeps_rules.ensures ∙ not-true _ c.if-not-keeps_rules.true))
+    c.refused.ensures ∙ sym (reset_11 _ (sym c.keeps_rules.ensures ∙ c.if-not-keeps_rules.true))
 
 pub returns-then-self : goal.returns-then-self
 unfolding numbers_of
 returns-then-self c =
-    c.refused-then-self.ensures ∙ sym (reset_33 _ (sym c.keeps_rules.ensures ∙ not-false _ c.if-not-keeps_rules.false) c.if-self.true)
+    c.refused-then-self.ensures ∙ sym (reset_33 _ (sym c.keeps_rules.ensures ∙ c.if-not-keeps_rules.false) c.if-self.true)
 
 pub returns : goal.returns
 unfolding numbers_of
 returns c =
-    sym (reset_done _ (sym c.keeps_rules.ensures ∙ not-false _ c.if-not-keeps_rules.false) c.if-self.false)
+    sym (reset_done _ (sym c.keeps_rules.ensures ∙ c.if-not-keeps_rules.false) c.if-self.false)
