@@ -14,7 +14,6 @@ use Rattle.octets.proofs.LawsLists.{drop_next}
 use Rattle.octets.proofs.LawsTests.{by_test, impossible}
 use Rattle.typestring.specs.declared.kind.ItemKind.{ItemKind}
 use Rattle.typestring.specs.declared.kind.ItemKind.TheVariants as kind
-use Rattle.typestring.specs.declared.kind.Value.{Value}
 use Rattle.typestring.specs.Kind.{kind_of}
 use Rattle.typestring.specs.Grammar.{Item, Items, value, rest, struct, array, end, more, print_item, print, ItemRules, PartRules}
 use Rattle.typestring.specs.Calls.{ItemFrom, InBrackets, EndsItem, EndsBrackets}

@@ -54,7 +54,7 @@ pub fn ends_part(types: &[u8], at: usize) -> bool
     types[at] == b')'
 }
 
-#[cycle(check_inside_check_item_check_sequence)]
+#[cycle(checking)]
 fn check_sequence(types: &[u8], at: usize, depth: usize, in_array: bool) -> Scan
     requires { at ≤ length types.now }
     ensures { Scanned types.now at (parse.part_at depth in_array (drop at types.now)) result }
@@ -81,7 +81,7 @@ fn check_sequence(types: &[u8], at: usize, depth: usize, in_array: bool) -> Scan
     }
 }
 
-#[cycle(check_inside_check_item_check_sequence)]
+#[cycle(checking)]
 fn check_item(types: &[u8], at: usize, depth: usize, in_array: bool) -> Step
     requires { at < length types.now }
     ensures { Stepped types.now at (parse.item_at depth in_array (drop at types.now)) result }
@@ -113,7 +113,7 @@ fn check_item(types: &[u8], at: usize, depth: usize, in_array: bool) -> Step
 }
 
 // The brackets at a place, with at least one item between them.
-#[cycle(check_inside_check_item_check_sequence)]
+#[cycle(checking)]
 fn check_inside(types: &[u8], at: usize, depth: usize, in_array: bool) -> Scan
     requires { at ≤ length types.now }
     ensures { Scanned types.now at (parse.inside parse.part_at depth in_array (drop at types.now)) result }

@@ -1,12 +1,7 @@
 -- The invariant: the bracket that closes the last of the open ones, looked for from `next` on, is the one that is looked for from `at` on,
 -- and it stands in the string.
-use mathlib.Core.Logic.{⊎_elim}
-use mathlib.Core.Path.{◌≡◌, refl}
-use Prim.Native.Nat.{◌+◌, ◌-◌, ◌<◌, ◌≤◌}
-use native.Mathlib.Omega.{arith}
-use borrow.Author.Tests.{eq-eqb, ne_eqb}
-use lib.ListN.{length, get_or, drop}
-use Rattle.typestring.proofs.LawsBrackets.{opened, shut, past, past_none, past_next, past_least, past_brackets, brackets_within}
+use Rattle.std.proofs.Common.{◌≡◌, ◌+◌, ◌-◌, ◌≤◌, length, drop}
+use Rattle.typestring.proofs.LawsBrackets.{past}
 use Rattle.typestring.proofs.brackets.bracket_end.Given as goal
 
 abbrev pub invariant-loop-unclosed : goal.invariant-loop-unclosed
@@ -14,5 +9,4 @@ invariant-loop-unclosed l =
     (l.at + past (drop l.at l.types) 1 ≤ length l.types) × (l.next + past (drop l.next l.types) l.unclosed ≡ l.at + past (drop l.at l.types) 1)
 
 abbrev pub decreases-loop-unclosed : goal.decreases-loop-unclosed
-decreases-loop-unclosed l =
-    length l.types - l.next
+decreases-loop-unclosed l = length l.types - l.next

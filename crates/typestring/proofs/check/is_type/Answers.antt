@@ -1,6 +1,5 @@
 -- The part that is the whole string, if it ends where the string does.
 use native.Mathlib.Omega.{arith}
-use borrow.Author.Rules.{rules}
 use borrow.Author.Tests.{lt-ltb, le-ltb}
 use lib.ListN.{length}
 use Rattle.typestring.specs.Parse.{type_of, whole}
