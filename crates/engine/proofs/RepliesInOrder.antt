@@ -6,6 +6,7 @@ use lib.ListN.{length}
 use Rattle.octets.proofs.LawsRuns.{emitted_append}
 use Rattle.octets.proofs.LawsTests.{by_test}
 use Rattle.device.specs.declared.state.Device.{Device}
+use Rattle.engine.specs.Engine.{engine}
 use Rattle.engine.specs.Merged.{device_step, device_after, replies_to}
 use Rattle.engine.specs.Links.{is_answered, replies_on, picked}
 use Rattle.engine.proofs.LawsSteps.{step_settings}
@@ -16,7 +17,7 @@ device_append d bs cs = foldl-append device_step d bs cs
 
 pub replies_append : (d : Device) (bs cs : List (List ℕ)) → replies_to d (bs ++ cs) ≡ replies_to d bs ++ replies_to (device_after d bs) cs
 unfolding replies_to device_after
-replies_append d bs cs = emitted_append _ device_step d bs cs
+replies_append d bs cs = emitted_append (λ e b. (engine e b).reply ∷ []) device_step d bs cs
 
 -- the same of what becomes of each reply, as its frame
 pub mapped_append : {A : Type 0} (f : List ℕ → A) (d : Device) (bs cs : List (List ℕ))

@@ -16,9 +16,12 @@ pub returns-then-k-settings : goal.returns-then-k-settings
 unfolding engine settled is_set_up link_of
 returns-then-k-settings c =
     rw (lt-ltb _ _ c.if-k-settings.true, ← c.of.ensures)
-    (rw (c.decide-decided.ensures.effect, c.decide-decided.ensures.link) at c.affected.ensures, c.decide-decided.ensures.reply)
+    (record {
+      device = rw (c.decide-decided.ensures.effect, c.decide-decided.ensures.link) at c.affected.ensures;
+      reply = c.decide-decided.ensures.reply;
+    })
 
 pub returns : goal.returns
 unfolding engine settled is_set_up link_of
 returns c =
-    rw (le-ltb _ _ c.if-k-settings.false) (refl, c.write_status.ensures)
+    rw (le-ltb _ _ c.if-k-settings.false) (record { device = refl; reply = c.write_status.ensures })
