@@ -1,5 +1,2 @@
 pub mod Classes
 pub mod Steps
-pub mod Shape
-pub mod Checks
-pub mod Explanation

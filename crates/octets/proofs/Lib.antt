@@ -1,7 +1,6 @@
 pub mod LawsTests
 pub mod LawsRanges
 pub mod LawsLists
-pub mod LawsFolding
 pub mod LawsFinding
 pub mod LawsScanning
 pub mod LawsComparing

@@ -1,3 +1,4 @@
+pub mod LawsFolding
 pub mod LawsBits
 pub mod LawsEvent
 pub mod EventTold

@@ -7,7 +7,7 @@ use borrow.Author.Rules.{rules}
 use borrow.Author.Tests.{eq-eqb, ne_eqb}
 use lib.ListN.{length, drop}
 use Rattle.transaction_script.specs.Event.{with_digit, decimal_in}
-use Rattle.octets.proofs.LawsFolding.{take_next, none_left}
+use Rattle.transaction_script.proofs.LawsFolding.{take_next, none_left}
 use Rattle.transaction_script.proofs.event.decimal.Given as goal
 
 abbrev pub invariant-loop-i : goal.invariant-loop-i

@@ -9,7 +9,7 @@ use lib.ListN.{length, drop}
 use Rattle.octets.proofs.LawsTests.{chosen, impossible}
 use Rattle.transaction_script.specs.Line.{max_text, len_after, taking}
 use Rattle.transaction_script.specs.Run.{State, state_of, line_end, after_line, after_octet, after_octets}
-use Rattle.octets.proofs.LawsFolding.{take_next, none_left}
+use Rattle.transaction_script.proofs.LawsFolding.{take_next, none_left}
 use Rattle.transaction_script.proofs.run.take_chunk.Goals as goal
 
 -- what is kept of the line that is coming in has room
