@@ -4,7 +4,7 @@ use Rattle.std.specs.Prelude.{ℕ, zero, suc, length, take, drop}
 use Rattle.octets.specs.Runs.{each, emitted}
 use Rattle.capture.specs.declared.records.Record.{Record}
 use Rattle.capture.specs.Records.{Entry, record_of, Good}
-use Rattle.capture.specs.Reading.{Report, read_front}
+use Rattle.capture.specs.Reading.{read_front}
 use Rattle.capture.specs.Writing.{writing}
 use Rattle.capture.specs.Writing as writing
 

@@ -3,7 +3,7 @@
 -- offered to report what the table would report if it were told the bodies one after the other, and leave the table that this leaves. And
 -- whatever inputs calls have, noise among them, the table is told the checked bodies among them and nothing else.
 use mathlib.Core.Path.{◌≡◌, refl, sym, ap, ap₂, subst, ◌∙◌}
-use mathlib.Core.Bool.{true, cond, not}
+use mathlib.Core.Bool.{true, cond}
 use mathlib.Core.List.{List, [], ◌∷◌, ◌++◌, foldl-append}
 use Prim.Native.Nat.{ℕ, zero, suc, ◌≤◌}
 use native.Mathlib.Omega.{arith}

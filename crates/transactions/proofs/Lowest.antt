@@ -11,7 +11,7 @@ use lib.Dec.{ltb}
 use lib.ListN.{get_or, drop}
 use Rattle.octets.proofs.LawsTests.{by_test, impossible}
 use Rattle.transactions.specs.Answer.{opened}
-use Rattle.transactions.specs.Table.{Mark, free, waiting, given_up, both, Numbers, mark_at, put, Rules, rules, first_free, lowest, Result, done, after_open}
+use Rattle.transactions.specs.Table.{Mark, free, waiting, given_up, both, Numbers, mark_at, put, Rules, first_free, lowest, Result, done, after_open}
 use Rattle.transactions.proofs.LawsTable.{lowest_free}
 use Rattle.transactions.proofs.LawsCalls.{open_done, open_cases}
 use Rattle.transactions.proofs.TableRules.{rules_hold, lowest_above}

@@ -1,10 +1,10 @@
 -- The invariant: what the octets from `next` on stand for, joined to what is read, is the answer.
 use mathlib.Core.Path.{◌≡◌, sym}
-use Prim.Native.Nat.{ℕ, suc, ◌+◌, ◌*◌, ◌-◌, ◌^◌, ◌<◌, ◌≤◌}
+use Prim.Native.Nat.{ℕ, suc, ◌+◌, ◌*◌, ◌-◌, ◌<◌, ◌≤◌}
 use native.Mathlib.Omega.{arith}
 use native.Mathlib.Nat.{pow-succ'}
 use borrow.Author.Tests.{eq-eqb, ne_eqb}
-use lib.ListN.{get_or, drop}
+use lib.ListN.{get_or}
 use Rattle.packed.specs.Packed.{packed_at, joined, number_in}
 use Rattle.packed.proofs.LawsPacked.{number_none, number_last, number_more, joined_joined, scale_room}
 use Rattle.packed.proofs.read_packed.Goals as goal

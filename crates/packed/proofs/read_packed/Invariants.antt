@@ -1,12 +1,8 @@
 -- The invariant: what the octets from `next` on stand for, joined to what is read, is the answer.
-use mathlib.Core.Path.{◌≡◌, sym}
-use Prim.Native.Nat.{ℕ, suc, ◌+◌, ◌*◌, ◌-◌, ◌^◌, ◌<◌, ◌≤◌}
-use native.Mathlib.Omega.{arith}
-use native.Mathlib.Nat.{pow-succ'}
-use borrow.Author.Tests.{eq-eqb, ne_eqb}
-use lib.ListN.{get_or, drop}
+use mathlib.Core.Path.{◌≡◌}
+use Prim.Native.Nat.{◌-◌, ◌^◌, ◌<◌, ◌≤◌}
+use lib.ListN.{drop}
 use Rattle.packed.specs.Packed.{packed_at, joined, number_in}
-use Rattle.packed.proofs.LawsPacked.{number_none, number_last, number_more, joined_joined, scale_room}
 use Rattle.packed.proofs.read_packed.Given as goal
 
 abbrev pub invariant-loop-left : goal.invariant-loop-left

@@ -1,13 +1,10 @@
 -- The invariant: what is left, put at the place reached, gives the whole.
-use mathlib.Core.Path.{◌≡◌, refl, ap, ◌∙◌}
-use Prim.Native.Nat.{◌+◌, ◌/◌, ◌≤◌}
-use native.Mathlib.Omega.{arith}
+use mathlib.Core.Path.{◌≡◌}
+use Prim.Native.Nat.{◌+◌, ◌≤◌}
 use lib.ListN.{length}
 use lib.Seq.{sets}
 use Rattle.octets.specs.Writing.{Wrote}
-use Rattle.octets.proofs.LawsWriting.{wrote_then}
 use Rattle.packed.specs.Packed.{packed, max_packed}
-use Rattle.packed.proofs.LawsPacked.{packed_one, packed_next}
 use Rattle.packed.proofs.write_packed.Given as goal
 
 abbrev pub invariant-loop-rest : goal.invariant-loop-rest

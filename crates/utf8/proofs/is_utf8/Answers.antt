@@ -1,10 +1,9 @@
 -- The invariant: the stage behind what is left is the stage behind the whole.
-use mathlib.Core.Path.{◌≡◌, refl, sym, ap, ◌∙◌}
+use mathlib.Core.Path.{refl, sym, ap, ◌∙◌}
 use mathlib.Core.List.{foldl}
-use Prim.Native.Nat.{◌+◌, ◌-◌, ◌≤◌}
+use Prim.Native.Nat.{◌+◌}
 use native.Mathlib.Omega.{arith}
-use borrow.Author.Rules.{rules}
-use lib.ListN.{length, drop, drop_of_length-le}
+use lib.ListN.{drop, drop_of_length-le}
 use Rattle.utf8.specs.Utf8.{step, ends, is_utf8}
 use Rattle.octets.proofs.LawsLists.{drop_next}
 use Rattle.utf8.proofs.is_utf8.Goals as goal

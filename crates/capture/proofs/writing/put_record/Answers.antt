@@ -1,7 +1,6 @@
 -- Four writers in a row write the record's parts in order.
 use Prim.Native.Nat.{◌+◌, ◌≤◌}
 use native.Mathlib.Omega.{arith}
-use borrow.Author.Rules.{rules}
 use lib.ListN.{length}
 use Rattle.octets.proofs.LawsLittleEndian.{length_le}
 use Rattle.octets.proofs.LawsWriting.{wrote_both}

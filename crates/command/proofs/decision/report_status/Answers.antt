@@ -1,6 +1,5 @@
 -- The link is the one given, with another status.
 use mathlib.Core.Path.{refl}
-use borrow.Author.Rules.{rules}
 use Rattle.command.specs.Decision.{status_decision}
 use Rattle.command.proofs.decision.report_status.Goals as goal
 

@@ -1,10 +1,6 @@
 -- The invariant: the ports from `at` on are distinct if all are.
-use mathlib.Core.Path.{◌≡◌, refl, sym, ◌∙◌}
-use Prim.Native.Nat.{◌-◌, ◌≤◌}
+use mathlib.Core.Path.{refl, sym, ◌∙◌}
 use native.Mathlib.Omega.{arith}
-use borrow.Author.Rules.{rules}
-use lib.ListN.{length, drop}
-use Rattle.device.specs.Ports.{ports_in, distinct}
 use Rattle.device.proofs.LawsPorts.{place_most, place_held, place_none, distinct_on, distinct_stop, distinct_none}
 use Rattle.device.proofs.ports.are_distinct.Goals as goal
 

@@ -1,11 +1,8 @@
 -- The invariant: the ports from `at` on are distinct if all are.
-use mathlib.Core.Path.{◌≡◌, refl, sym, ◌∙◌}
+use mathlib.Core.Path.{◌≡◌}
 use Prim.Native.Nat.{◌-◌, ◌≤◌}
-use native.Mathlib.Omega.{arith}
-use borrow.Author.Rules.{rules}
 use lib.ListN.{length, drop}
 use Rattle.device.specs.Ports.{ports_in, distinct}
-use Rattle.device.proofs.LawsPorts.{place_most, place_held, place_none, distinct_on, distinct_stop, distinct_none}
 use Rattle.device.proofs.ports.are_distinct.Given as goal
 
 abbrev pub invariant-loop-at : goal.invariant-loop-at

@@ -1,11 +1,6 @@
 -- The invariant: what is still before the port, from `at` on, is what is before it in all.
-use mathlib.Core.Path.{◌≡◌, refl, sym, ◌∙◌}
-use Prim.Native.Nat.{◌+◌, ◌*◌, ◌-◌, ◌≤◌}
+use mathlib.Core.Path.{refl, sym, ◌∙◌}
 use native.Mathlib.Omega.{arith}
-use borrow.Author.Rules.{rules}
-use lib.ListN.{length, drop}
-use Rattle.octets.specs.Finding.{before}
-use Rattle.device.specs.Ports.{ports_in}
 use Rattle.device.proofs.LawsPorts.{port_here, port_on, port_none}
 use Rattle.device.proofs.ports.find_port.Goals as goal
 

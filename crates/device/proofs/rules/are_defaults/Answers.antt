@@ -1,14 +1,10 @@
 -- The invariant: what is left is as the whole.
-use borrow.Author.Rules.{rules}
 use borrow.Author.Tests.{eq-eqb, ne_eqb}
-use mathlib.Core.Path.{◌≡◌, refl, sym, ◌∙◌}
-use Prim.Native.Nat.{◌-◌, ◌≤◌}
+use mathlib.Core.Path.{refl, sym, ◌∙◌}
 use native.Mathlib.Omega.{arith}
-use lib.Dec.{eqb}
-use lib.ListN.{get_or}
-use Rattle.octets.specs.Scanning.{all_from, all_below}
+use Rattle.octets.specs.Scanning.{all_below}
 use Rattle.octets.proofs.LawsScanning.{scan_on, scan_stop, scan_end}
-use Rattle.property.specs.Number.{number_at, slot_count}
+use Rattle.property.specs.Number.{slot_count}
 use Rattle.device.specs.Rules.{at_defaults}
 use Rattle.device.proofs.rules.are_defaults.Goals as goal
 

@@ -1,5 +1,4 @@
 -- Each return is a test of the definition.
-use borrow.Author.Rules.{rules}
 use borrow.Author.Tests.{le-leb, lt-leb}
 use Rattle.device.specs.Rules.{padded}
 use Rattle.device.proofs.rules.is_padded.Goals as goal

@@ -1,6 +1,5 @@
 -- Each return is a branch of the definition.
 use native.Mathlib.Omega.{arith}
-use borrow.Author.Rules.{rules}
 use borrow.Author.Tests.{lt-ltb, le-ltb}
 use Rattle.device.specs.Rules.{link_kept}
 use Rattle.device.proofs.rules.link_is_kept.Goals as goal

@@ -1,13 +1,9 @@
 -- The invariant: what is left is as the whole.
-use borrow.Author.Rules.{rules}
-use mathlib.Core.Path.{◌≡◌, refl, sym, ◌∙◌}
-use Prim.Native.Nat.{◌-◌, ◌≤◌}
+use mathlib.Core.Path.{refl, sym, ◌∙◌}
 use native.Mathlib.Omega.{arith}
-use lib.ListN.{get_or}
-use Rattle.octets.specs.Scanning.{all_from, all_below}
+use Rattle.octets.specs.Scanning.{all_below}
 use Rattle.octets.proofs.LawsScanning.{scan_on, scan_stop, scan_end}
-use Rattle.device.specs.State.{no_link, max_links}
-use Rattle.device.specs.Rules.{link_kept}
+use Rattle.device.specs.State.{max_links}
 use Rattle.device.proofs.rules.links_keep.Goals as goal
 
 pub loop-k-init : goal.loop-k-init

@@ -1,11 +1,8 @@
 -- The invariant: what is left is as the whole.
-use borrow.Author.Rules.{rules}
-use mathlib.Core.Path.{◌≡◌, refl, sym, ◌∙◌}
+use mathlib.Core.Path.{◌≡◌}
 use Prim.Native.Nat.{◌-◌, ◌≤◌}
-use native.Mathlib.Omega.{arith}
 use lib.ListN.{get_or}
-use Rattle.octets.specs.Scanning.{all_from, all_below}
-use Rattle.octets.proofs.LawsScanning.{scan_on, scan_stop, scan_end}
+use Rattle.octets.specs.Scanning.{all_from}
 use Rattle.property.specs.Number.{number_at, within, slot_count}
 use Rattle.device.specs.Rules.{in_range}
 use Rattle.device.proofs.rules.numbers_keep.Given as goal

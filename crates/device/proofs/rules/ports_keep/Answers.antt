@@ -1,5 +1,4 @@
 -- Each return is a test of the definition.
-use borrow.Author.Rules.{rules}
 use borrow.Author.Tests.{eq-eqb, ne_eqb}
 use mathlib.Core.Path.{sym, ◌∙◌}
 use Rattle.device.specs.Rules.{ports_rule}

@@ -1,5 +1,4 @@
 -- The code's test is the definition's.
-use borrow.Author.Rules.{rules}
 use mathlib.Core.Path.{refl}
 use Rattle.device.specs.Rules.{stack_rule}
 use Rattle.device.proofs.rules.stack_keeps.Goals as goal

@@ -1,5 +1,4 @@
 -- Each return is a test of the definition.
-use borrow.Author.Rules.{rules}
 use mathlib.Core.Path.{sym, ◌∙◌}
 use Rattle.device.specs.Rules.{text_rule}
 use Rattle.device.proofs.LawsRules.{padded_front}

@@ -1,5 +1,4 @@
 -- The code's settings are the definition's.
-use borrow.Author.Rules.{rules}
 use Rattle.octets.specs.Padding.{pad}
 use Rattle.device.specs.Setup.{refusal}
 use Rattle.device.proofs.set_up.refuse.Goals as goal

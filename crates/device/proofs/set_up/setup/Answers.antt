@@ -1,5 +1,4 @@
 -- Where the lengths are right, the settings' rule decides as setup does.
-use borrow.Author.Rules.{rules}
 use mathlib.Core.Path.{sym, ◌∙◌}
 use native.Mathlib.Omega.{arith}
 use Rattle.device.proofs.LawsSetup.{setup_ready, setup_refused, text_long, address_wrong, setup_rule}

@@ -1,5 +1,4 @@
 -- The table's default is one octet.
-use borrow.Author.Rules.{rules}
 use native.Mathlib.Omega.{arith}
 use Rattle.device.proofs.state.default_power.Goals as goal
 

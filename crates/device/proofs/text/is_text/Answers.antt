@@ -1,5 +1,4 @@
 -- Each return is a test of the definition.
-use borrow.Author.Rules.{rules}
 use borrow.Author.Tests.{le-leb, lt-leb}
 use native.Mathlib.Nat.{zero-add}
 use Rattle.device.specs.Text.{good_text, is_text}

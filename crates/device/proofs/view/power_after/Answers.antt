@@ -1,5 +1,4 @@
 -- Each arm is a clause of the definition.
-use borrow.Author.Rules.{rules}
 use Rattle.device.specs.View.{power_after}
 use Rattle.device.proofs.view.power_after.Goals as goal
 

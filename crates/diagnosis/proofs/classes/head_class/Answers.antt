@@ -1,6 +1,5 @@
 -- Each return is a branch of the definition.
 use mathlib.Core.Path.{◌≡◌}
-use borrow.Author.Rules.{rules}
 use borrow.Author.Tests.{eq-eqb, ne_eqb, lt-ltb, le-ltb}
 use Rattle.engine.specs.Engine.{link_of}
 use Rattle.diagnosis.specs.Classes.{verdict_class, link_class, head_class}

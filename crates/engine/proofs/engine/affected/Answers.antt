@@ -1,5 +1,4 @@
 -- Each arm is a clause of the definition.
-use borrow.Author.Rules.{rules}
 use Rattle.engine.specs.Engine.{affect}
 use Rattle.engine.proofs.engine.affected.Goals as goal
 

@@ -1,7 +1,6 @@
 -- What setup returns for these settings, which keeps the rules.
 use mathlib.Core.Path.{ap}
 use mathlib.Core.List.{[]}
-use borrow.Author.Rules.{rules}
 use lib.ListN.{replicate}
 use Rattle.device.specs.State.{address_size}
 use Rattle.device.proofs.SetupKeepsRules.{setup_keeps}

@@ -1,9 +1,9 @@
 -- The invariant: the register after what is left is the register after the whole. The constant is the table: all of its 256 entries are
 -- computed, once, where it is lent.
-use mathlib.Core.Path.{◌≡◌, refl, sym, ap, ◌∙◌}
-use Prim.Native.Nat.{◌+◌, ◌-◌, ◌≤◌}
+use mathlib.Core.Path.{refl, sym, ap, ◌∙◌}
+use Prim.Native.Nat.{◌+◌}
 use native.Mathlib.Omega.{arith}
-use lib.ListN.{length, drop}
+use lib.ListN.{drop}
 use lib.Bits.{bit_xor}
 use Rattle.frame.specs.Fcs.{fcs_bit, fcs_bits, fcs_entries, fcs_table, fcs_from, fcs}
 use Rattle.frame.proofs.LawsFcs.{from_next, from_done}

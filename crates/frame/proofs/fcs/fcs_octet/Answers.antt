@@ -1,5 +1,4 @@
 -- What is lent is the table, so the lookup is eight bit steps.
-use borrow.Author.Rules.{rules}
 use Rattle.frame.proofs.FcsTable.{one_lookup}
 use Rattle.frame.proofs.fcs.fcs_octet.Goals as goal
 

@@ -1,7 +1,6 @@
 -- Four writers in a row write the frame's parts in order.
 use mathlib.Core.Path.{◌≡◌, ap, ◌∙◌}
 use native.Mathlib.Omega.{arith}
-use borrow.Author.Rules.{rules}
 use Rattle.octets.specs.LittleEndian.{le_octets}
 use Rattle.octets.proofs.LawsWriting.{wrote_both}
 use Rattle.frame.specs.Fcs.{fcs}

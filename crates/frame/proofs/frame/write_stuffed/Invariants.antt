@@ -1,12 +1,9 @@
 -- The invariant: what is left, put at the place reached, gives the whole.
-use mathlib.Core.Path.{◌≡◌, refl, sym, ap, ◌∙◌}
+use mathlib.Core.Path.{◌≡◌}
 use Prim.Native.Nat.{◌+◌, ◌-◌, ◌≤◌}
-use native.Mathlib.Omega.{arith}
 use lib.ListN.{length, drop}
 use lib.Seq.{sets}
-use Rattle.octets.proofs.LawsWriting.{wrote_then}
 use Rattle.frame.specs.Frame.{stuffed}
-use Rattle.frame.proofs.LawsFrame.{stuffed_next, stuffed_next_length, stuffed_done}
 use Rattle.frame.proofs.frame.write_stuffed.Given as goal
 
 abbrev pub invariant-loop-i : goal.invariant-loop-i

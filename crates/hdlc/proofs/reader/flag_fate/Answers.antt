@@ -2,7 +2,6 @@
 use mathlib.Core.Path.{sym}
 use native.Mathlib.Omega.{arith}
 use borrow.Author.Tests.{eq-eqb, ne_eqb}
-use borrow.Author.Rules.{rules}
 use lib.Seq.{length-take-le}
 use Rattle.hdlc.specs.Reader.{flag_fate}
 use Rattle.hdlc.proofs.LawsFates.{fated_front}

@@ -1,7 +1,6 @@
 -- Each way out has the test that `gather` makes.
 use borrow.Author.Tests.{lt-ltb, le-ltb}
 use Rattle.hdlc.specs.Reader.{gather}
-use borrow.Author.Rules.{rules}
 use Rattle.hdlc.proofs.reader.gather_octet.Goals as goal
 
 pub returns-then-count-lt-MAX_GATHERED : goal.returns-then-count-lt-MAX_GATHERED

@@ -1,12 +1,10 @@
 -- The invariant: the outcome of what is left, `at` octets later, is that of the whole, and the reader keeps its rules.
-use mathlib.Core.Bool.{true, not}
-use mathlib.Core.Path.{◌≡◌, refl, sym, ap, ◌∙◌}
-use Prim.Native.Nat.{◌-◌, ◌≤◌}
+use mathlib.Core.Bool.{not}
+use mathlib.Core.Path.{refl, sym, ap, ◌∙◌}
 use native.Mathlib.Omega.{arith}
 use borrow.Author.Tests.{eq-eqb, ne_eqb}
-use lib.ListN.{length, get_or, drop}
-use Rattle.hdlc.specs.Fate.{later}
-use Rattle.hdlc.specs.Reader.{assembling, run}
+use lib.ListN.{get_or}
+use Rattle.hdlc.specs.Reader.{assembling}
 use Rattle.hdlc.specs.Rules.{rules}
 use Rattle.hdlc.proofs.LawsReading.{later_zero, run_end, run_next, run_decided}
 use Rattle.hdlc.proofs.ReaderRules.{rules_told, after_rules}

@@ -1,15 +1,11 @@
 -- The invariant: the outcome of what is left, `at` octets later, is that of the whole, and the reader keeps its rules.
-use mathlib.Core.Bool.{true, not}
-use mathlib.Core.Path.{◌≡◌, refl, sym, ap, ◌∙◌}
+use mathlib.Core.Bool.{true}
+use mathlib.Core.Path.{◌≡◌}
 use Prim.Native.Nat.{◌-◌, ◌≤◌}
-use native.Mathlib.Omega.{arith}
-use borrow.Author.Tests.{eq-eqb, ne_eqb}
-use lib.ListN.{length, get_or, drop}
+use lib.ListN.{length, drop}
 use Rattle.hdlc.specs.Fate.{later}
 use Rattle.hdlc.specs.Reader.{assembling, run}
 use Rattle.hdlc.specs.Rules.{rules}
-use Rattle.hdlc.proofs.LawsReading.{later_zero, run_end, run_next, run_decided}
-use Rattle.hdlc.proofs.ReaderRules.{rules_told, after_rules}
 use Rattle.hdlc.proofs.reader.read_frame.Given as goal
 
 abbrev pub invariant-loop-at : goal.invariant-loop-at

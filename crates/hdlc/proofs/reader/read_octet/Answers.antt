@@ -1,6 +1,5 @@
 -- Each arm has the kind by which the definitions go.
 use mathlib.Core.Path.{sym, ◌∙◌}
-use borrow.Author.Rules.{rules}
 use Rattle.frame.proofs.LawsKinds.{kind_tests}
 use Rattle.hdlc.specs.Reader.{after_octet, fate_at}
 use Rattle.hdlc.proofs.reader.read_octet.Goals as goal

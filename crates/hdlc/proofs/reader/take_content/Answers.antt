@@ -1,7 +1,6 @@
 -- Each way out has the tests that `content` makes.
 use mathlib.Core.Path.{◌∙◌}
 use Rattle.hdlc.specs.Reader.{after_content}
-use borrow.Author.Rules.{rules}
 use Rattle.hdlc.proofs.reader.take_content.Goals as goal
 
 pub returns-then-reader : goal.returns-then-reader

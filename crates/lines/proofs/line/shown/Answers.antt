@@ -1,5 +1,4 @@
 -- Each way out has the test that `separator` makes.
-use borrow.Author.Rules.{rules}
 use borrow.Author.Tests.{eq-eqb, ne_eqb}
 use Rattle.lines.specs.Line.{digits, separator, shown}
 use Rattle.lines.proofs.line.shown.Goals as goal

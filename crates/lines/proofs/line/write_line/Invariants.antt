@@ -1,13 +1,9 @@
 -- The invariant: what is left, put at the place reached, gives the whole.
-use mathlib.Core.Path.{◌≡◌, refl, sym, ap, ◌∙◌}
-use mathlib.Core.List.{◌++◌}
-use Prim.Native.Nat.{◌+◌, ◌*◌, ◌-◌, ◌≤◌}
-use native.Mathlib.Omega.{arith}
+use mathlib.Core.Path.{◌≡◌}
+use Prim.Native.Nat.{◌*◌, ◌-◌, ◌≤◌}
 use lib.ListN.{length, drop}
 use lib.Seq.{sets}
-use Rattle.octets.proofs.LawsWriting.{wrote_then}
-use Rattle.lines.specs.Line.{shown, line_of}
-use Rattle.lines.proofs.LawsLines.{line_next, line_done, line_length}
+use Rattle.lines.specs.Line.{line_of}
 use Rattle.lines.proofs.line.write_line.Given as goal
 
 abbrev pub invariant-loop-i : goal.invariant-loop-i

@@ -1,7 +1,6 @@
 -- Each way out has the range of letters that its law is of.
 use mathlib.Core.Path.{sym}
 use native.Mathlib.Omega.{arith}
-use borrow.Author.Rules.{rules}
 use Rattle.lines.proofs.LawsDigits.{before_decimal, decimal, before_capital, capital, before_small, small, behind_small}
 use Rattle.lines.proofs.reader.digit_of.Goals as goal
 

@@ -1,6 +1,5 @@
 -- What a fresh reader reads, finished.
 use mathlib.Core.Path.{ap, ◌∙◌}
-use borrow.Author.Rules.{rules}
 use Rattle.lines.specs.Reader.{outcome, at_end, read_line}
 use Rattle.lines.proofs.reader.read_line.Goals as goal
 

@@ -1,7 +1,6 @@
 -- Each return is a branch of the definition; the ports held are even octets, so a place below their count is a port's.
 use mathlib.Core.Path.{sym}
 use native.Mathlib.Omega.{arith}
-use borrow.Author.Rules.{rules}
 use borrow.Author.Tests.{eq-eqb, ne_eqb}
 use Rattle.device.proofs.StateRules.{ports_room, ports_even}
 use Rattle.method.specs.Items.{remove_port}

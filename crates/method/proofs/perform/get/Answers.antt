@@ -1,6 +1,5 @@
 -- Each return is a branch of the definition.
 use native.Mathlib.Omega.{arith}
-use borrow.Author.Rules.{rules}
 use borrow.Author.Tests.{eq-eqb, ne_eqb}
 use lib.ListN.{length}
 use Rattle.method.specs.Perform.{get_with}

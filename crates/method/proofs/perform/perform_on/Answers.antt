@@ -1,5 +1,4 @@
 -- Each arm is a clause of the definition.
-use borrow.Author.Rules.{rules}
 use Rattle.method.specs.Perform.{perform}
 use Rattle.method.proofs.perform.perform_on.Goals as goal
 

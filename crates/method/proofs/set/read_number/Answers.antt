@@ -1,6 +1,5 @@
 -- Each return is a branch of the definition; the payload is read whole.
 use mathlib.Core.Path.{◌∙◌}
-use borrow.Author.Rules.{rules}
 use borrow.Author.Tests.{eq-eqb, ne_eqb}
 use Rattle.method.specs.Set.{value_in}
 use Rattle.method.proofs.LawsNumbers.{le_whole}

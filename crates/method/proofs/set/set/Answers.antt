@@ -1,5 +1,4 @@
 -- Each arm is a clause of the definition; the row's rule bounds the slot.
-use borrow.Author.Rules.{rules}
 use Rattle.property.proofs.TableRule.{slot_below}
 use Rattle.method.specs.Set.{set_kind}
 use Rattle.method.proofs.set.set.Goals as goal

@@ -4,10 +4,8 @@ use mathlib.Core.List.{append-nil}
 use Prim.Native.Nat.{suc}
 use native.Mathlib.Omega.{arith}
 use native.Mathlib.Nat.{zero-add}
-use borrow.Author.Rules.{rules}
 use borrow.Author.Tests.{eq-eqb, ne_eqb}
 use lib.ListN.{length}
-use lib.Seq.{length-take-le}
 use Rattle.octets.specs.Finding.{before}
 use Rattle.octets.proofs.LawsFinding.{before_most}
 use Rattle.device.specs.State.{max_name}

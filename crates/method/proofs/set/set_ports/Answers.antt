@@ -1,7 +1,6 @@
 -- Each return is a branch of the definition; even octets are twice as many as their ports.
 use mathlib.Core.List.{append-nil}
 use native.Mathlib.Omega.{arith}
-use borrow.Author.Rules.{rules}
 use borrow.Author.Tests.{eq-eqb, ne_eqb, lt-ltb, le-ltb}
 use lib.ListN.{length}
 use Rattle.device.specs.State.{max_ports}

@@ -1,7 +1,6 @@
 -- Each arm is a clause of the definition; a value of the power state fits an octet.
 use mathlib.Core.Path.{refl, sym, ◌∙◌}
 use native.Mathlib.Omega.{arith}
-use borrow.Author.Rules.{rules}
 use Rattle.property.specs.Number.{power_state}
 use Rattle.method.specs.Set.{set_power, power_to}
 use Rattle.method.proofs.LawsNumbers.{value_within, within_most}

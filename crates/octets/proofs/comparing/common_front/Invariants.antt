@@ -1,10 +1,8 @@
 -- The invariant: what is still common, from `at` on, is what is common in all.
 use mathlib.Core.Path.{◌≡◌}
 use Prim.Native.Nat.{◌+◌, ◌-◌, ◌≤◌}
-use native.Mathlib.Omega.{arith}
 use lib.ListN.{length, drop}
 use Rattle.octets.specs.Comparing.{common_front}
-use Rattle.octets.proofs.LawsComparing.{common_end, common_short, common_stop, common_on}
 use Rattle.octets.proofs.comparing.common_front.Given as goal
 
 abbrev pub invariant-loop-at : goal.invariant-loop-at

@@ -1,5 +1,4 @@
 -- Each return is a test of the definition.
-use borrow.Author.Rules.{rules}
 use borrow.Author.Tests.{eq-eqb, ne_eqb}
 use Rattle.octets.specs.Comparing.{is_same}
 use Rattle.octets.proofs.comparing.same_octets.Goals as goal

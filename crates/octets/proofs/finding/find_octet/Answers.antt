@@ -1,9 +1,6 @@
 -- The invariant: what is still before the octet, from `at` on, is what is before it in all.
-use mathlib.Core.Path.{◌≡◌, refl}
-use Prim.Native.Nat.{◌+◌, ◌-◌, ◌≤◌}
+use mathlib.Core.Path.{refl}
 use native.Mathlib.Omega.{arith}
-use lib.ListN.{length, drop}
-use Rattle.octets.specs.Finding.{before}
 use Rattle.octets.proofs.LawsFinding.{before_here, before_on, before_none}
 use Rattle.octets.proofs.finding.find_octet.Goals as goal
 

@@ -1,10 +1,8 @@
 -- The invariant: what is still before the octet, from `at` on, is what is before it in all.
-use mathlib.Core.Path.{◌≡◌, refl}
+use mathlib.Core.Path.{◌≡◌}
 use Prim.Native.Nat.{◌+◌, ◌-◌, ◌≤◌}
-use native.Mathlib.Omega.{arith}
 use lib.ListN.{length, drop}
 use Rattle.octets.specs.Finding.{before}
-use Rattle.octets.proofs.LawsFinding.{before_here, before_on, before_none}
 use Rattle.octets.proofs.finding.find_octet.Given as goal
 
 abbrev pub invariant-loop-at : goal.invariant-loop-at

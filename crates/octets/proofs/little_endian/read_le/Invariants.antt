@@ -1,10 +1,8 @@
 -- The invariant: what is read so far is the number of the part's octets from i on.
-use mathlib.Core.Path.{◌≡◌, ap, ◌∙◌}
-use Prim.Native.Nat.{◌+◌, ◌-◌, ◌≤◌, ◌<◌, ◌^◌}
-use native.Mathlib.Omega.{arith}
+use mathlib.Core.Path.{◌≡◌}
+use Prim.Native.Nat.{◌≤◌}
 use lib.ListN.{take, drop}
-use Rattle.octets.specs.LittleEndian.{le, le_at}
-use Rattle.octets.proofs.LawsLittleEndian.{le_none, le_small, le_step}
+use Rattle.octets.specs.LittleEndian.{le}
 use Rattle.octets.proofs.little_endian.read_le.Given as goal
 
 abbrev pub invariant-loop-i : goal.invariant-loop-i

@@ -1,11 +1,9 @@
 -- The invariant: what is left, put at the place reached, gives the whole.
-use mathlib.Core.Path.{◌≡◌, refl, sym, ◌∙◌}
-use Prim.Native.Nat.{◌+◌, ◌-◌, ◌≤◌}
+use mathlib.Core.Path.{refl, sym, ◌∙◌}
+use Prim.Native.Nat.{◌+◌, ◌-◌}
 use native.Mathlib.Omega.{arith}
 use native.Mathlib.Nat.{add-zero, sub-zero}
-use lib.ListN.{length, length-set}
-use lib.Seq.{sets}
-use Rattle.octets.specs.LittleEndian.{le_octets}
+use lib.ListN.{length-set}
 use Rattle.octets.proofs.LawsLittleEndian.{length_le, le_put, le_done}
 use Rattle.octets.proofs.little_endian.write_le.Goals as goal
 

@@ -1,11 +1,8 @@
 -- The invariant: what is left is as the whole.
-use mathlib.Core.Path.{◌≡◌, refl, sym, ◌∙◌}
+use mathlib.Core.Path.{◌≡◌}
 use Prim.Native.Nat.{◌-◌, ◌≤◌}
-use native.Mathlib.Omega.{arith}
-use borrow.Author.Tests.{eq-eqb, ne_eqb}
-use lib.ListN.{length, get_or}
+use lib.ListN.{length}
 use Rattle.octets.specs.Scanning.{zeros_from}
-use Rattle.octets.proofs.LawsScanning.{scan_on, scan_stop, scan_end}
 use Rattle.octets.proofs.scanning.is_zero_from.Given as goal
 
 abbrev pub invariant-loop-at : goal.invariant-loop-at

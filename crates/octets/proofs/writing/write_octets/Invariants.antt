@@ -1,11 +1,8 @@
 -- The invariant: what is left, put at the place reached, gives the whole.
-use mathlib.Core.Path.{◌≡◌, refl, sym, ap, ◌∙◌}
+use mathlib.Core.Path.{◌≡◌}
 use Prim.Native.Nat.{◌+◌, ◌-◌, ◌≤◌}
-use native.Mathlib.Omega.{arith}
-use native.Mathlib.Nat.{add-zero}
-use lib.ListN.{length, drop, length-set, drop_of_length-le}
+use lib.ListN.{length, drop}
 use lib.Seq.{sets}
-use Rattle.octets.proofs.LawsWriting.{put_next}
 use Rattle.octets.proofs.writing.write_octets.Given as goal
 
 abbrev pub invariant-loop-i : goal.invariant-loop-i

@@ -1,5 +1,4 @@
 -- The table's rule, by its computed test.
-use borrow.Author.Rules.{rules}
 use mathlib.Core.Path.{refl}
 use Rattle.property.specs.Number.{numbers}
 use Rattle.property.proofs.TableRule.{numbers_keep}

@@ -1,5 +1,4 @@
 -- Each arm is a clause of the definition.
-use borrow.Author.Rules.{rules}
 use Rattle.property.specs.Row.{allows}
 use Rattle.property.proofs.row.allows.Goals as goal
 

@@ -1,12 +1,9 @@
 -- The invariant: looking from the i-th row on finds what looking from the first finds.
-use borrow.Author.Rules.{rules}
 use mathlib.Core.Path.{◌≡◌, refl, sym, ap, ◌∙◌}
-use Prim.Native.Nat.{◌-◌, ◌≤◌}
 use native.Mathlib.Omega.{arith}
-use lib.ListN.{drop}
 use Rattle.property.specs.declared.row.Row.{Row}
 use Rattle.property.specs.declared.row.Found.TheVariants.{At}
-use Rattle.property.specs.Row.{rows, lookup_in, lookup, row_count}
+use Rattle.property.specs.Row.{lookup}
 use Rattle.property.proofs.TableRule.{hit, miss, past, rows_keep}
 use Rattle.property.proofs.row.find.Goals as goal
 

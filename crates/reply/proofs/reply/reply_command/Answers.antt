@@ -1,5 +1,4 @@
 -- Each arm is a clause of the definition.
-use borrow.Author.Rules.{rules}
 use Rattle.reply.specs.Reply.{reply_command}
 use Rattle.reply.proofs.reply.reply_command.Goals as goal
 

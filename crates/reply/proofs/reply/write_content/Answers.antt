@@ -1,5 +1,4 @@
 -- Each arm writes what its clause of the definition says.
-use borrow.Author.Rules.{rules}
 use Rattle.reply.specs.Reply.{content}
 use Rattle.reply.proofs.reply.write_content.Goals as goal
 

@@ -1,6 +1,5 @@
 -- Each writer goes on where the one before it stopped: 2 octets, at most 3 for the number, and at most 33.
 use native.Mathlib.Omega.{arith}
-use borrow.Author.Rules.{rules}
 use Rattle.octets.proofs.LawsWriting.{wrote_both}
 use Rattle.packed.proofs.ReadsBack.{packed_size}
 use Rattle.property.proofs.TableRule.{small_id}

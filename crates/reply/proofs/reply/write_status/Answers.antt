@@ -1,5 +1,4 @@
 -- The four octets are written in one go.
-use borrow.Author.Rules.{rules}
 use Rattle.reply.specs.Reply.{status_reply}
 use Rattle.reply.proofs.reply.write_status.Goals as goal
 

@@ -1,6 +1,5 @@
 -- A number of the table has at most four octets.
 use native.Mathlib.Omega.{arith}
-use borrow.Author.Rules.{rules}
 use Rattle.property.proofs.TableRule.{width_most}
 use Rattle.reply.specs.Value.{number_value}
 use Rattle.reply.proofs.value.write_number.Goals as goal

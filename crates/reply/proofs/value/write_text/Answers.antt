@@ -1,5 +1,4 @@
 -- A text and its zero, written one after the other, are both.
-use borrow.Author.Rules.{rules}
 use Rattle.octets.proofs.LawsWriting.{wrote_both}
 use Rattle.reply.proofs.value.write_text.Goals as goal
 

@@ -1,7 +1,6 @@
 -- Each arm writes a clause of the definition; the rules of the row, the link and the settings give the room.
 use mathlib.Core.Path.{sym}
 use native.Mathlib.Omega.{arith}
-use borrow.Author.Rules.{rules}
 use Rattle.property.proofs.TableRule.{slot_below}
 use Rattle.device.proofs.StateRules.{name_room, ports_room}
 use Rattle.reply.specs.Value.{value_of}

@@ -1,5 +1,4 @@
 -- Each return is a branch of the definition.
-use borrow.Author.Rules.{rules}
 use Rattle.request.specs.Verdict.{by_row, by_property}
 use Rattle.request.proofs.verdict.by_property.Goals as goal
 

@@ -1,5 +1,4 @@
 -- Each return is a branch of the definition.
-use borrow.Author.Rules.{rules}
 use borrow.Author.Tests.{eq-eqb, ne_eqb, lt-ltb, le-ltb}
 use Rattle.request.specs.Verdict.{by_command, verdict}
 use Rattle.request.proofs.verdict.verdict_of.Goals as goal

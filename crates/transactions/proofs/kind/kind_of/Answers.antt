@@ -1,6 +1,5 @@
 -- Each way out has the tests that `kind` makes.
 use mathlib.Core.Path.{sym, ◌∙◌}
-use borrow.Author.Rules.{rules}
 use borrow.Author.Tests.{eq-eqb, ne_eqb, lt-ltb, le-ltb}
 use Rattle.transactions.specs.Kind.{kind}
 use Rattle.transactions.proofs.kind.kind_of.Goals as goal

@@ -1,6 +1,5 @@
 -- The digit at a place is what is left of the bits when the lower ones are shifted out.
 use mathlib.Core.Path.{ap}
-use borrow.Author.Rules.{rules}
 use lib.Dec.{eqb}
 use Rattle.transactions.proofs.LawsDigits.{digit_at}
 use Rattle.transactions.proofs.number_set.has.Goals as goal

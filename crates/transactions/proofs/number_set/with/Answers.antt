@@ -1,6 +1,5 @@
 -- A number's bit joined is its digit set.
 use mathlib.Core.Path.{ap, ◌∙◌}
-use borrow.Author.Rules.{rules}
 use lib.Bits.{bit_or}
 use Rattle.transactions.specs.NumberSet.{digits}
 use Rattle.transactions.proofs.LawsDigits.{bit_is, digits_set}

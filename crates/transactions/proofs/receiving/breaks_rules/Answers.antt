@@ -1,6 +1,5 @@
 -- Each way out has the tests that `breaks_rules` makes.
 use mathlib.Core.Path.{sym, ◌∙◌}
-use borrow.Author.Rules.{rules}
 use Rattle.transactions.specs.Receiving.{breaks_rules}
 use Rattle.transactions.proofs.receiving.breaks_rules.Goals as goal
 

@@ -1,17 +1,15 @@
 -- Each refusal has the tests of the definition; a checked body goes to the table.
 use mathlib.Core.Bool.{false}
 use mathlib.Core.Path.{◌≡◌, sym, ap, ◌∙◌}
-use mathlib.Core.List.{List}
-use Prim.Native.Nat.{ℕ, ◌≤◌}
-use borrow.Author.Rules.{rules}
+use Prim.Native.Nat.{◌≤◌}
 use lib.ListN.{length, take}
 use lib.Seq.{length-take-le}
 use Rattle.octets.specs.Body.{SpinelBody}
 use Rattle.hdlc.specs.declared.reader.Fate.TheVariants.{Checked}
-use Rattle.hdlc.specs.Reader.{assembling, outcome, Outcome, run}
+use Rattle.hdlc.specs.Reader.{assembling, outcome, run}
 use Rattle.hdlc.proofs.ReaderRules.{rules_told}
 use Rattle.hdlc.proofs.CheckedBodies.{checked_count, tag_unchecked}
-use Rattle.transactions.specs.Table.{Numbers, numbers_of}
+use Rattle.transactions.specs.Table.{numbers_of}
 use Rattle.transactions.specs.Receiving.{told, unrefused, breaks_rules, receive}
 use Rattle.transactions.proofs.LawsReceiving.{rules_kept, receive_11, receive_12, receive_run}
 use borrow.Enum.Refused.{opened}

@@ -1,18 +1,15 @@
 -- Header, command and payload are written one behind the other, and are the body whose frame is written.
-use mathlib.Core.Bool.{true}
 use mathlib.Core.Path.{◌≡◌, sym, ap, ap₂, ◌∙◌}
 use mathlib.Core.List.{List, [], ◌∷◌}
 use Prim.Native.Nat.{ℕ, ◌+◌, ◌-◌, ◌≤◌}
 use native.Mathlib.Omega.{arith}
-use borrow.Author.Rules.{rules}
-use borrow.Author.Tests.{not-true, not-false}
 use lib.ListN.{length, take, replicate, length-replicate}
 use lib.Seq.{length-take-le, take-append_seam, length-sets}
 use Rattle.octets.specs.Writing.{Wrote}
 use Rattle.octets.proofs.LawsWriting.{wrote_both, front_count, front_held}
 use Rattle.packed.specs.Packed.{packed}
 use Rattle.packed.proofs.ReadsBack.{packed_size}
-use Rattle.transactions.specs.Writing.{header, command_body, Sendable, is_sendable, writing_fitting}
+use Rattle.transactions.specs.Writing.{header, command_body, writing_fitting}
 use Rattle.transactions.proofs.LawsWriting.{sendable_told, body_size, command_none, command_long, command_fitting}
 use Rattle.transactions.proofs.writing.write_command.Goals as goal
 

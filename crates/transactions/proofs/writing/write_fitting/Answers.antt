@@ -1,7 +1,6 @@
 -- Where there is room for every frame of the body's length, there is room for its frame.
 use mathlib.Core.Path.{sym, ◌∙◌}
 use native.Mathlib.Omega.{arith}
-use borrow.Author.Rules.{rules}
 use Rattle.frame.proofs.FrameBounds.{frame_bounds}
 use Rattle.transactions.proofs.LawsWriting.{fits_written}
 use Rattle.transactions.proofs.writing.write_fitting.Goals as goal

@@ -1,12 +1,8 @@
 -- The space has room for any frame, and what stands at its front goes out where there is room for it.
 use mathlib.Core.Path.{sym, subst}
-use mathlib.Core.List.{List}
-use Prim.Native.Nat.{ℕ}
 use native.Mathlib.Omega.{arith}
-use borrow.Author.Rules.{rules}
 use lib.Seq.{length-take-le}
 use Rattle.octets.specs.Writing.{Wrote}
-use Rattle.frame.specs.Frame.{frame}
 use Rattle.frame.proofs.FrameBounds.{frame_bounds}
 use Rattle.transactions.proofs.LawsWriting.{Framed, framed, fits_not, fits}
 use Rattle.transactions.proofs.writing.write_tight.Goals as goal

@@ -1,7 +1,6 @@
 -- Each arm has the row of the grammar that its octets are in.
 use mathlib.Core.Path.{sym, ◌∙◌}
 use native.Mathlib.Omega.{arith}
-use borrow.Author.Rules.{rules}
 use Rattle.utf8.specs.Utf8.{leads}
 use Rattle.utf8.proofs.LawsLeads.{in_lead, in_no_lead}
 use Rattle.utf8.proofs.Stage.after_lead.Goals as goal

@@ -1,5 +1,4 @@
 -- Each arm has the stage by which `ends` goes.
-use borrow.Author.Rules.{rules}
 use Rattle.utf8.specs.Utf8.{ends}
 use Rattle.utf8.proofs.Stage.ends.Goals as goal
 

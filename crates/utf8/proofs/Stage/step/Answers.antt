@@ -1,6 +1,5 @@
 -- Each arm has the stage by which `step` goes, and an octet that is expected has its range.
 use mathlib.Core.Path.{◌∙◌}
-use borrow.Author.Rules.{rules}
 use Rattle.octets.proofs.LawsRanges.{inside, below, above}
 use Rattle.utf8.specs.Utf8.{step}
 use Rattle.utf8.proofs.Stage.step.Goals as goal

@@ -1,5 +1,4 @@
 -- Four times the fresh link, and the power state's default.
-use borrow.Author.Rules.{rules}
 use Rattle.device.specs.State.{fresh}
 use Rattle.device.proofs.state.Device.fresh.Goals as goal
 

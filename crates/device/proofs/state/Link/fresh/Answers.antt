@@ -1,5 +1,4 @@
 -- No name and no ports are zeros alone.
-use borrow.Author.Rules.{rules}
 use Rattle.octets.specs.Padding.{pad}
 use Rattle.device.proofs.state.Link.fresh.Goals as goal
 

@@ -1,5 +1,4 @@
 -- The power state is what `power_after` promises.
-use borrow.Author.Rules.{rules}
 use Rattle.device.proofs.view.View.after.Goals as goal
 
 pub returns : goal.returns

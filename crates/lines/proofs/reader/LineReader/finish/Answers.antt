@@ -1,6 +1,5 @@
 -- Each arm has the stage by which `answer_at` goes.
 use mathlib.Core.Path.{◌∙◌}
-use borrow.Author.Rules.{rules}
 use Rattle.lines.specs.Reader.{answer_at}
 use Rattle.lines.proofs.reader.LineReader.finish.Goals as goal
 

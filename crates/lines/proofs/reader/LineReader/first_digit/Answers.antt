@@ -1,6 +1,5 @@
 -- Each way out has the test that `first` makes.
 use mathlib.Core.Path.{◌∙◌}
-use borrow.Author.Rules.{rules}
 use borrow.Author.Tests.{lt-ltb, le-ltb}
 use Rattle.lines.specs.Reader.{first}
 use Rattle.lines.proofs.reader.LineReader.first_digit.Goals as goal

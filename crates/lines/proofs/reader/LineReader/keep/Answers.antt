@@ -1,5 +1,4 @@
 -- Each way out has the test that `kept` makes.
-use borrow.Author.Rules.{rules}
 use borrow.Author.Tests.{lt-ltb, le-ltb}
 use Rattle.lines.specs.Reader.{with_octet}
 use Rattle.lines.proofs.reader.LineReader.keep.Goals as goal

@@ -1,10 +1,9 @@
 -- The invariant: reading what is left from here is reading the whole.
-use mathlib.Core.Path.{◌≡◌, refl, sym, ap, ◌∙◌}
-use Prim.Native.Nat.{◌+◌, ◌-◌, ◌≤◌}
+use mathlib.Core.Path.{refl, sym, ap, ◌∙◌}
+use Prim.Native.Nat.{◌+◌}
 use native.Mathlib.Omega.{arith}
-use borrow.Author.Rules.{rules}
-use lib.ListN.{length, drop}
-use Rattle.lines.specs.Reader.{keeping, reading}
+use lib.ListN.{drop}
+use Rattle.lines.specs.Reader.{reading}
 use Rattle.lines.proofs.LawsReading.{reading_next, reading_done}
 use Rattle.lines.proofs.reader.LineReader.read.Goals as goal
 

@@ -1,11 +1,8 @@
 -- The invariant: reading what is left from here is reading the whole.
-use mathlib.Core.Path.{◌≡◌, refl, sym, ap, ◌∙◌}
-use Prim.Native.Nat.{◌+◌, ◌-◌, ◌≤◌}
-use native.Mathlib.Omega.{arith}
-use borrow.Author.Rules.{rules}
+use mathlib.Core.Path.{◌≡◌}
+use Prim.Native.Nat.{◌-◌, ◌≤◌}
 use lib.ListN.{length, drop}
 use Rattle.lines.specs.Reader.{keeping, reading}
-use Rattle.lines.proofs.LawsReading.{reading_next, reading_done}
 use Rattle.lines.proofs.reader.LineReader.read.Given as goal
 
 abbrev pub invariant-loop-i : goal.invariant-loop-i

@@ -1,6 +1,5 @@
 -- Each way out has the test that `second` makes.
 use mathlib.Core.Path.{◌∙◌}
-use borrow.Author.Rules.{rules}
 use borrow.Author.Tests.{lt-ltb, le-ltb}
 use Rattle.lines.specs.Reader.{second}
 use Rattle.lines.proofs.reader.LineReader.second_digit.Goals as goal

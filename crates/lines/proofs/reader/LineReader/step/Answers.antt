@@ -1,6 +1,5 @@
 -- Each arm has the stage by which `step_from` goes.
 use mathlib.Core.Path.{◌∙◌}
-use borrow.Author.Rules.{rules}
 use borrow.Author.Tests.{eq-eqb, ne_eqb}
 use Rattle.lines.specs.Reader.{step_from}
 use Rattle.lines.proofs.reader.LineReader.step.Goals as goal

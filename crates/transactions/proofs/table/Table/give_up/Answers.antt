@@ -1,7 +1,6 @@
 -- Each way out has the tests that `after_give_up` makes; a number past 15 has no mark, and is not waiting.
 use mathlib.Core.Path.{sym, ap, ◌∙◌}
-use borrow.Author.Rules.{rules}
-use borrow.Author.Tests.{eqb-true, not-true, not-false}
+use borrow.Author.Tests.{eqb-true}
 use Rattle.transactions.specs.Answer.{gave_up}
 use Rattle.transactions.specs.Table.{is_waiting, done}
 use Rattle.transactions.proofs.LawsTable.{mark_at_lem, waits_alone, no_waits, not_waiting, mark_past, numbers_put}

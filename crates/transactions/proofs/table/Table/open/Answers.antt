@@ -1,13 +1,11 @@
 -- Each way out has the tests that `after_open` makes; the number handed out is free, so that it gets the mark of one that waits.
 use mathlib.Core.Path.{◌≡◌, sym, ap, ◌∙◌}
 use Prim.Native.Nat.{ℕ}
-use borrow.Author.Rules.{rules}
-use borrow.Author.Tests.{not-true, not-false}
 use Rattle.transactions.specs.declared.table.Table.{Table}
 use lib.ListN.{set}
 use Rattle.transactions.specs.Answer.{opened}
 use Rattle.transactions.specs.NumberSet.{digits}
-use Rattle.transactions.specs.Table.{numbers_of, mark_at, waiting, put, done, refused, lowest, after_open}
+use Rattle.transactions.specs.Table.{numbers_of, mark_at, waiting, put, done, lowest}
 use Rattle.transactions.proofs.LawsTable.{table, numbers_put, gave_kept, lowest_free, free_gave, resetting_is}
 use Rattle.transactions.proofs.LawsCalls.{open_11, open_33, open_31, open_done}
 use Rattle.transactions.proofs.table.Table.open.Goals as goal

@@ -1,7 +1,5 @@
 -- The rules are looked at first; then it goes by what the body is.
 use mathlib.Core.Path.{sym, ap, ◌∙◌}
-use borrow.Author.Rules.{rules}
-use borrow.Author.Tests.{not-true, not-false}
 use Rattle.transactions.specs.Answer.{announced}
 use Rattle.transactions.specs.Table.{done}
 use Rattle.transactions.proofs.LawsKind.{reply_below}

@@ -1,6 +1,5 @@
 -- A number of a table that keeps its rules is in one set at most, which tells its mark.
 use mathlib.Core.Path.{sym, ap, ◌∙◌}
-use borrow.Author.Rules.{rules}
 use borrow.Author.Tests.{eqb-true}
 use Rattle.transactions.specs.Answer.{answered, late}
 use Rattle.transactions.specs.Table.{done}

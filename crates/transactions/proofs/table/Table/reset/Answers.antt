@@ -1,7 +1,5 @@
 -- Each way out has the tests that `after_reset` makes.
 use mathlib.Core.Path.{sym, ◌∙◌}
-use borrow.Author.Rules.{rules}
-use borrow.Author.Tests.{not-true, not-false}
 use Rattle.transactions.specs.Table.{numbers_of}
 use Rattle.transactions.proofs.LawsCalls.{reset_11, reset_33, reset_done}
 use Rattle.transactions.proofs.table.Table.reset.Goals as goal
