@@ -1,5 +1,4 @@
 -- Laws of where values stand: a value that stands in a part takes octets, and all it takes are the part's.
-use mathlib.Core.Bool.{Bool}
 use mathlib.Core.List.{List}
 use mathlib.Core.Path.{◌≡◌, refl}
 use Prim.Native.Nat.{ℕ, ◌+◌, ◌-◌, ◌<◌, ◌≤◌}

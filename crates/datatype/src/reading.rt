@@ -98,7 +98,7 @@ pub fn read_typed(types: &[u8], payload: &[u8], list: &mut [u32]) -> Answer
 }
 
 // Reads the part of the payload from `from` on by the items from `at` on; the depth is how many brackets more may be opened.
-#[cycle(read_item_read_sequence)]
+#[cycle(reading_parts)]
 fn read_sequence(
     types: &[u8],
     at: usize,
@@ -131,7 +131,7 @@ fn read_sequence(
     }
 }
 
-#[cycle(read_item_read_sequence)]
+#[cycle(reading_parts)]
 fn read_item(
     types: &[u8],
     at: usize,

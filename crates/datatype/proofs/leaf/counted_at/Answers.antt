@@ -1,5 +1,4 @@
 -- The tests are those of `counted_at`.
-use borrow.Author.Rules.{rules}
 use borrow.Author.Tests.{lt-ltb, le-ltb}
 use Rattle.datatype.specs.Leaf.{counted_at}
 use Rattle.datatype.proofs.leaf.counted_at.Goals as goal

@@ -1,5 +1,4 @@
 -- The test is that of `fixed_at`.
-use borrow.Author.Rules.{rules}
 use borrow.Author.Tests.{lt-ltb, le-ltb}
 use Rattle.datatype.specs.Leaf.{fixed_at}
 use Rattle.datatype.proofs.leaf.fixed_at.Goals as goal

@@ -1,7 +1,6 @@
 -- Each arm is a clause of `number_span`; a reading goes on, so that it has a size.
 use mathlib.Core.Path.{sym, ◌∙◌}
 use native.Mathlib.Omega.{arith}
-use borrow.Author.Rules.{rules}
 use Rattle.packed.proofs.OneSpelling.{place_after}
 use Rattle.datatype.specs.Leaf.{number_span}
 use Rattle.datatype.proofs.leaf.packed_at.Goals as goal

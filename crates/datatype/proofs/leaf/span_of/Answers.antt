@@ -1,5 +1,4 @@
 -- Each arm is a clause of `span_of`.
-use borrow.Author.Rules.{rules}
 use Rattle.datatype.specs.Leaf.{span_of}
 use Rattle.datatype.proofs.leaf.span_of.Goals as goal
 

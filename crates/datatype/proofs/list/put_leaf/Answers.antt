@@ -2,7 +2,6 @@
 use mathlib.Core.Path.{refl}
 use native.Mathlib.Numerals.{add-one, add-two}
 use native.Mathlib.Omega.{arith}
-use borrow.Author.Rules.{rules}
 use Rattle.datatype.specs.Reading.{leaf_reads, numbers}
 use Rattle.datatype.proofs.list.put_leaf.Goals as goal
 

@@ -1,6 +1,5 @@
 -- Behind the list's end `set` stores nothing either.
 use mathlib.Core.Path.{sym}
-use borrow.Author.Rules.{rules}
 use lib.Seq.{set_out}
 use Rattle.datatype.proofs.list.put_number.Goals as goal
 
