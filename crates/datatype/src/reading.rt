@@ -61,8 +61,8 @@ impl Answer {
 
 // Reads a payload by a type string. The leaves go to `list`, three numbers each: letter, start, length.
 pub fn read_typed(types: &[u8], payload: &[u8], list: &mut [u32]) -> Answer
-    ensures result_value { reported result ≡ report_of (answer_to types.now payload.now list.old) }
-    ensures list_after { list.new ≡ filled list.old (answer_to types.now payload.now list.old) }
+    ensures report { reported result ≡ report_of (answer_to types.now payload.now list.old) }
+    ensures list { list.new ≡ filled list.old (answer_to types.now payload.now list.old) }
 {
     if is_type(types) {
         let end = payload.len();

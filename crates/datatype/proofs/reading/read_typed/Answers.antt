@@ -6,7 +6,7 @@ use Rattle.datatype.proofs.reading.read_typed.Goals as goal
 pub returns-then-end-gt-MAX_OCTETS : goal.returns-then-end-gt-MAX_OCTETS
 returns-then-end-gt-MAX_OCTETS c =
     let w = answers_long c.args.types.now c.args.payload.now c.args.list.now (sym c.is_type.ensures ∙ c.if-is_type.true) (omega arith) in
-    record { result_value = w.0; list_after = w.1 }
+    record { report = w.0; list = w.1 }
 
 pub read_sequence-requires : goal.read_sequence-requires
 read_sequence-requires c = readable _ _ [] (sym c.is_type.ensures ∙ c.if-is_type.true) (omega arith)
@@ -24,7 +24,7 @@ returns-then-room-leaves c =
     let typed = sym c.is_type.ensures ∙ c.if-is_type.true in
     let w = answers_short c.args.types.now c.args.payload.now c.args.list.now typed (omega arith) _ _ c.read_sequence.auto.list _ _
     c.read_sequence.ensures c.filling.ensures _ _ c.in-Upto.is (omega arith) in
-    record { result_value = w.0; list_after = w.1 }
+    record { report = w.0; list = w.1 }
 
 pub read_sequence-requires-in-Upto : goal.read_sequence-requires-in-Upto
 read_sequence-requires-in-Upto c = readable _ _ [] (sym c.is_type.ensures ∙ c.if-is_type.true) (omega arith)
@@ -34,16 +34,16 @@ returns-in-Misfit c =
     let typed = sym c.is_type.ensures ∙ c.if-is_type.true in
     let w = answers_misfit c.args.types.now c.args.payload.now c.args.list.now typed (omega arith) _ _ c.read_sequence.auto.list _ _
     c.read_sequence.ensures c.filling.ensures _ c.in-Misfit.is in
-    record { result_value = w.0; list_after = w.1 }
+    record { report = w.0; list = w.1 }
 
 pub returns-else-room-leaves : goal.returns-else-room-leaves
 returns-else-room-leaves c =
     let typed = sym c.is_type.ensures ∙ c.if-is_type.true in
     let w = answers_leaves c.args.types.now c.args.payload.now c.args.list.now typed (omega arith) _ _ c.read_sequence.auto.list _ _
     c.read_sequence.ensures c.filling.ensures _ _ c.in-Upto.is (omega arith) _ _ c.read_sequence-in-Upto.ensures in
-    record { result_value = w.0; list_after = w.1 }
+    record { report = w.0; list = w.1 }
 
 pub returns-else-is_type : goal.returns-else-is_type
 returns-else-is_type c =
     let w = answers_malformed c.args.types.now c.args.payload.now c.args.list.now (sym c.is_type.ensures ∙ c.if-is_type.false) in
-    record { result_value = w.0; list_after = w.1 }
+    record { report = w.0; list = w.1 }
