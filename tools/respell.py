@@ -84,12 +84,19 @@ def of_libraries(text, own):
 def respell(text, new, fields):
     out, at = [], 0
     paths = [m.span(1) for m in USE.finditer(text)]
+    comments = [m.span() for m in re.finditer(r"^ *-- .*$", text, re.M)]
     for m in TOKEN.finditer(text):
         while paths and paths[0][1] <= m.start():
             paths.pop(0)
         if paths and paths[0][0] <= m.start():
             continue
         word = m[0]
+        while comments and comments[0][1] <= m.start():
+            comments.pop(0)
+        if comments and comments[0][0] <= m.start():
+            # in a comment's sentence a word with a dash is a word; between backticks it is a name
+            if not re.search("[A-Z]", word) and text[comments[0][0]:m.start()].count("`") % 2 == 0:
+                continue
         bare = word.rstrip("?!")
         tail = word[len(bare):]
         behind_dot = m.start() > 0 and text[m.start() - 1] == "."

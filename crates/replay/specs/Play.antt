@@ -1,5 +1,5 @@
--- A log's records replayed (02, T-05): "A program replays a log's to_box_lem records from standard input through 01's program box and prints a line
--- for each from-box record: `yes` if the record just before is to_box_lem and this is its reply, else `no`."
+-- A log's records replayed (02, T-05): "A program replays a log's to-box records from standard input through 01's program box and prints a line
+-- for each from-box record: `yes` if the record just before is to-box and this is its reply, else `no`."
 use Rattle.std.specs.Prelude.{Bool, true, false, cond, ◌≡◌, ℕ, ◌/◌, ◌≤◌, eqb, length, take}
 use mathlib.Core.List.{List, [], ◌∷◌, ◌++◌, foldl}
 use Rattle.octets.specs.Body.{header_of}
@@ -71,7 +71,7 @@ request_in e = cond (eqb e.direction to_box) (cond (eqb (header_of e.body / 64) 
 unfoldable pub requests_in : List Entry → List (List ℕ)
 requests_in es = each request_in es
 
--- behind these records, "the record just before is to_box_lem and this is its reply": the engine's, on the box that the bodies before it leave
+-- behind these records, "the record just before is to-box and this is its reply": the engine's, on the box that the bodies before it leave
 pub record IsReply (d : Device) (es : List Entry) (a : Entry) : Type 0 where
   pub before : List Entry
   pub request : Entry
