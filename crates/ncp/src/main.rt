@@ -8,7 +8,7 @@ use crate::serve::serve;
 use engine::two_links;
 use hdlc::Reader;
 
-fn main() {
+fn main(rt: HostRuntime) {
     let mut assembly = [0u8; Reader::MAX_GATHERED];
-    serve(two_links(), &mut assembly);
+    serve(two_links(), rt.stdin(), rt.stdout(), &mut assembly);
 }

@@ -8,7 +8,8 @@ ghost use Rattle.ncp.specs.Serve.{state_of, KeepsState, start, gives, next, chun
 use crate::turn::{Turn, receive_line};
 use device::Device;
 use hdlc::Reader;
-use libc::{STDIN_FILENO, STDOUT_FILENO};
+use std::io::{Stdin, Stdout};
+use streams::read_some;
 
 // The box and its reader between two calls.
 #[derive(Clone, Copy)]
@@ -28,7 +29,7 @@ pub struct Progress {
 }
 
 // One call, and its line.
-fn serve_call(session: Session, input: &[u8], assembly: &mut [u8]) -> Progress
+fn serve_call(session: Session, stdout: Stdout, input: &[u8], assembly: &mut [u8]) -> Progress
     ensures read { result.read ≡ (gives (state_of session assembly.old) input.now).read }
     ensures state { state_of result.session assembly.new ≡ next (state_of session assembly.old) input.now }
 {
@@ -41,14 +42,14 @@ fn serve_call(session: Session, input: &[u8], assembly: &mut [u8]) -> Progress
         session: Session {
             device,
             reader,
-            stopped: !io::write_all(STDOUT_FILENO, &line[..len]),
+            stopped: stdout.write_all(&line[..len]).is_err(),
         },
         read: turn.read,
     }
 }
 
 // Calls until the chunk is used up. Reader and assembly buffer go on into the next chunk.
-fn serve_chunk(session: Session, chunk: &[u8], assembly: &mut [u8]) -> Session
+fn serve_chunk(session: Session, stdout: Stdout, chunk: &[u8], assembly: &mut [u8]) -> Session
     requires { KeepsState (state_of session assembly.old) }
     ensures keeps { KeepsState (state_of result assembly.new) }
     ensures state { result.stopped ≡ false → state_of result assembly.new ≡ chunk_leaves (state_of session assembly.old) chunk.now }
@@ -56,7 +57,7 @@ fn serve_chunk(session: Session, chunk: &[u8], assembly: &mut [u8]) -> Session
     let mut session = session;
     let mut rest = chunk;
     while 0 < rest.len() {
-        let progress = serve_call(session, rest, assembly);
+        let progress = serve_call(session, stdout, rest, assembly);
         session = progress.session;
         if session.stopped {
             return session;
@@ -68,24 +69,29 @@ fn serve_chunk(session: Session, chunk: &[u8], assembly: &mut [u8]) -> Session
 }
 
 // Takes what one read gives, so that no reply waits for more input.
-fn serve_read(session: Session, chunk: &mut [u8], assembly: &mut [u8]) -> Progress
+fn serve_read(
+    session: Session,
+    mut stdin: Stdin,
+    stdout: Stdout,
+    chunk: &mut [u8],
+    assembly: &mut [u8],
+) -> Progress
     requires { KeepsState (state_of session assembly.old) }
     ensures keeps { KeepsState (state_of result.session assembly.new) }
     ensures state { result.session.stopped ≡ false →
         state_of result.session assembly.new ≡ chunk_leaves (state_of session assembly.old) (take result.read chunk.new) }
 {
-    let got = libc::read(STDIN_FILENO, chunk);
     // 0 at the end of the input, and where the read failed.
-    let read = io::count(got, &chunk[..]);
+    let read = read_some(&mut stdin, chunk);
     Progress {
-        session: serve_chunk(session, &chunk[..read], assembly),
+        session: serve_chunk(session, stdout, &chunk[..read], assembly),
         read,
     }
 }
 
 // A proved loop has to end, and nothing says that the input does. So the reads are counted down from 2^64 - 1, which takes 584 years at one
 // each nanosecond.
-pub fn serve(device: Device, assembly: &mut [u8]) -> Progress
+pub fn serve(device: Device, stdin: Stdin, stdout: Stdout, assembly: &mut [u8]) -> Progress
     requires rules { rules device ≡ true }
     requires room { max_gathered ≤ length assembly.old }
     ensures { Ended (start device assembly.old) result assembly.new }
@@ -98,10 +104,10 @@ pub fn serve(device: Device, assembly: &mut [u8]) -> Progress
         },
         read: 0,
     };
-    let mut chunk = io::buffer();
+    let mut chunk = [0u8; 4096];
     let mut reads = u64::MAX;
     while 0 < reads {
-        progress = serve_read(progress.session, &mut chunk, assembly);
+        progress = serve_read(progress.session, stdin, stdout, &mut chunk, assembly);
         reads -= 1;
         if progress.read == 0 {
             return progress;

@@ -4,8 +4,9 @@ ghost use Rattle.std.specs.Prelude.{◌≡◌, ◌≤◌, length, take};
 ghost use Rattle.replay.specs.Chunks.{body_left, max_record, IsChunk};
 
 use capture::{Found, Record, read_record};
-use libc::STDIN_FILENO;
 use octets::read_le;
+use std::io::Stdin;
+use streams::read_full;
 
 // How many octets of a body are to come, where these are five and a good head; else none.
 fn body_left(octets: &[u8]) -> usize
@@ -22,12 +23,12 @@ fn body_left(octets: &[u8]) -> usize
 
 // Reads the next record to the front of the space, and no octet of the one behind it. Returns how many octets came: fewer where the input ends
 // or a read fails, and only five where they are no good head.
-pub fn read_chunk(space: &mut [u8]) -> usize
+pub fn read_chunk(mut stdin: Stdin, space: &mut [u8]) -> usize
     requires { length space.old ≡ max_record }
     ensures room { result ≤ length space.new }
     ensures chunk { IsChunk (take result space.new) }
 {
-    let head = io::read_full(STDIN_FILENO, &mut space[..Record::HEAD_SIZE]);
+    let head = read_full(&mut stdin, &mut space[..Record::HEAD_SIZE]);
     let end = head + body_left(&space[..head]);
-    head + io::read_full(STDIN_FILENO, &mut space[head..end])
+    head + read_full(&mut stdin, &mut space[head..end])
 }

@@ -10,7 +10,7 @@ use crate::run::run;
 use capture::Record;
 use engine::two_links;
 
-fn main() {
+fn main(rt: HostRuntime) {
     let mut space = [0u8; Record::MAX_OCTETS];
-    run(two_links(), &mut space);
+    run(two_links(), rt.stdin(), rt.stdout(), &mut space);
 }

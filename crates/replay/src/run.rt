@@ -9,7 +9,7 @@ use crate::chunks::read_chunk;
 use crate::play::{Line, Playback};
 use capture::{Found, read_record};
 use device::Device;
-use libc::STDOUT_FILENO;
+use std::io::{Stdin, Stdout};
 
 // The box after a chunk of the log, and the line for it.
 #[derive(Clone, Copy)]
@@ -56,32 +56,32 @@ fn play_chunk(playback: Playback, chunk: &[u8]) -> Turn
     }
 }
 
-fn print(line: Line) -> bool {
+fn print(stdout: Stdout, line: Line) -> bool {
     match line {
         Line::Nothing => true,
-        Line::Yes => io::write_all(STDOUT_FILENO, b"yes\n"),
-        Line::No => io::write_all(STDOUT_FILENO, b"no\n"),
+        Line::Yes => stdout.write_all(b"yes\n").is_ok(),
+        Line::No => stdout.write_all(b"no\n").is_ok(),
     }
 }
 
 // One chunk of the log. Its line is written before more is read.
-fn play_next(playback: Playback, space: &mut [u8]) -> Progress
+fn play_next(playback: Playback, stdin: Stdin, stdout: Stdout, space: &mut [u8]) -> Progress
     requires keeps { Keeps playback }
     requires room { length space.old ≡ max_record }
     ensures chunk { IsChunk (take result.turn.read space.new) }
     ensures turned { Turned (state_of playback) result.turn (take result.turn.read space.new) }
 {
-    let read = read_chunk(space);
+    let read = read_chunk(stdin, space);
     let turn = play_chunk(playback, &space[..read]);
     let line = turn.line;
     Progress {
         turn,
-        stopped: !print(line),
+        stopped: !print(stdout, line),
     }
 }
 
 // A proved loop has to end, and nothing says that the input does. So the chunks are counted down from 2^64 - 1.
-pub fn run(device: Device, space: &mut [u8]) -> Progress
+pub fn run(device: Device, stdin: Stdin, stdout: Stdout, space: &mut [u8]) -> Progress
     requires rules { rules device ≡ true }
     requires room { length space.old ≡ max_record }
     ensures { Ended (silent device) result }
@@ -98,7 +98,7 @@ pub fn run(device: Device, space: &mut [u8]) -> Progress
     let mut left = u64::MAX;
     while 0 < left {
         let turn = progress.turn;
-        progress = play_next(turn.playback, space);
+        progress = play_next(turn.playback, stdin, stdout, space);
         left -= 1;
         let next = progress.turn;
         if next.ended {

@@ -10,7 +10,7 @@ mod run;
 use crate::line::Line;
 use crate::run::run;
 
-fn main() {
+fn main(rt: HostRuntime) {
     let mut body = [0u8; Line::MAX_BODY];
-    run(&mut body);
+    run(rt.stdin(), rt.stdout(), &mut body);
 }

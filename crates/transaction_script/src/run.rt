@@ -6,7 +6,8 @@ ghost use Rattle.transaction_script.specs.Run.{state_of, after_line, after_octet
 
 use crate::line::Line;
 use crate::play::{Said, play};
-use libc::{STDIN_FILENO, STDOUT_FILENO};
+use std::io::{Stdin, Stdout};
+use streams::read_some;
 use transactions::{Answer, Table};
 
 #[derive(Clone, Copy)]
@@ -17,44 +18,41 @@ pub struct Script {
     pub stopped: bool,
 }
 
-fn print(line: &[u8]) -> bool {
-    io::write_all(STDOUT_FILENO, line)
+fn print(stdout: Stdout, line: &[u8]) -> bool {
+    stdout.write_all(line).is_ok()
 }
 
-fn print_number(word: &[u8], number: u64) -> bool {
-    if !print(word) {
+fn print_number(stdout: Stdout, word: &[u8], number: u64) -> bool {
+    if !print(stdout, word) {
         return false;
     }
-    if !io::print_decimal(STDOUT_FILENO, number) {
-        return false;
-    }
-    print(b"\n")
+    stdout.println(number).is_ok()
 }
 
-fn print_answer(answer: Answer) -> bool {
+fn print_answer(stdout: Stdout, answer: Answer) -> bool {
     match answer {
-        Answer::Opened(number) => print_number(b"opened ", number as u64),
-        Answer::Allowed => print(b"allowed\n"),
-        Answer::GivenUp => print(b"given up\n"),
-        Answer::Answered(number) => print_number(b"answered ", number as u64),
-        Answer::Late(number) => print_number(b"late ", number as u64),
-        Answer::Announced => print(b"announced\n"),
-        Answer::Stray => print(b"stray\n"),
-        Answer::Refused(why) => print_number(b"refused ", why.number() as u64),
+        Answer::Opened(number) => print_number(stdout, b"opened ", number as u64),
+        Answer::Allowed => print(stdout, b"allowed\n"),
+        Answer::GivenUp => print(stdout, b"given up\n"),
+        Answer::Answered(number) => print_number(stdout, b"answered ", number as u64),
+        Answer::Late(number) => print_number(stdout, b"late ", number as u64),
+        Answer::Announced => print(stdout, b"announced\n"),
+        Answer::Stray => print(stdout, b"stray\n"),
+        Answer::Refused(why) => print_number(stdout, b"refused ", why.number() as u64),
     }
 }
 
-fn print_said(said: Said) -> bool {
+fn print_said(stdout: Stdout, said: Said) -> bool {
     match said {
         Said::Nothing => true,
-        Said::Done => print(b"ok\n"),
-        Said::Unknown => print(b"no event\n"),
-        Said::Answer(answer) => print_answer(answer),
+        Said::Done => print(stdout, b"ok\n"),
+        Said::Unknown => print(stdout, b"no event\n"),
+        Said::Answer(answer) => print_answer(stdout, answer),
     }
 }
 
 // The line has ended.
-fn end_line(script: Script, body: &[u8]) -> Script
+fn end_line(script: Script, stdout: Stdout, body: &[u8]) -> Script
     requires { script.line.len ≤ max_text }
     ensures { state_of result body.now ≡ after_line (state_of script body.now) }
 {
@@ -65,16 +63,16 @@ fn end_line(script: Script, body: &[u8]) -> Script
     Script {
         table,
         line: Line::fresh(),
-        stopped: !print_said(said),
+        stopped: !print_said(stdout, said),
     }
 }
 
-fn take_octet(script: Script, octet: u8, body: &mut [u8]) -> Script
+fn take_octet(script: Script, stdout: Stdout, octet: u8, body: &mut [u8]) -> Script
     requires { script.line.len ≤ max_text }
     ensures { state_of result body.new ≡ after_octet (state_of script body.old) octet }
 {
     if octet == b'\n' {
-        return end_line(script, &body[..]);
+        return end_line(script, stdout, &body[..]);
     }
     let line = script.line;
     let table = script.table;
@@ -87,7 +85,7 @@ fn take_octet(script: Script, octet: u8, body: &mut [u8]) -> Script
 }
 
 // Octets one after the other, until an answer cannot be written.
-fn take_chunk(script: Script, chunk: &[u8], body: &mut [u8]) -> Script
+fn take_chunk(script: Script, stdout: Stdout, chunk: &[u8], body: &mut [u8]) -> Script
     requires { script.line.len ≤ max_text }
     ensures room { result.line.len ≤ max_text }
     ensures state { result.stopped ≡ false → state_of result body.new ≡ after_octets (state_of script body.old) chunk.now }
@@ -95,7 +93,7 @@ fn take_chunk(script: Script, chunk: &[u8], body: &mut [u8]) -> Script
     let mut script = script;
     let mut i: usize = 0;
     while i < chunk.len() {
-        script = take_octet(script, chunk[i], body);
+        script = take_octet(script, stdout, chunk[i], body);
         if script.stopped {
             return script;
         }
@@ -105,23 +103,22 @@ fn take_chunk(script: Script, chunk: &[u8], body: &mut [u8]) -> Script
 }
 
 // A proved loop has to end, and nothing says that the input does. So the reads are counted down from 2^64 - 1.
-pub fn run(body: &mut [u8; Line::MAX_BODY]) {
+pub fn run(mut stdin: Stdin, stdout: Stdout, body: &mut [u8; Line::MAX_BODY]) {
     let mut script = Script {
         table: Table::fresh(),
         line: Line::fresh(),
         stopped: false,
     };
-    let mut chunk = io::buffer();
+    let mut chunk = [0u8; 4096];
     let mut reads = u64::MAX;
     while 0 < reads {
-        let got = libc::read(STDIN_FILENO, &mut chunk);
         // 0 at the end of the input, and where the read failed. What came of a last line counts.
-        let read = io::count(got, &chunk[..]);
+        let read = read_some(&mut stdin, &mut chunk);
         if read == 0 {
-            end_line(script, &body[..]);
+            end_line(script, stdout, &body[..]);
             return;
         }
-        script = take_chunk(script, &chunk[..read], body);
+        script = take_chunk(script, stdout, &chunk[..read], body);
         if script.stopped {
             return;
         }

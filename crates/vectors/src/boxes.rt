@@ -8,20 +8,25 @@ use crate::text::{
 use device::{Device, setup};
 use engine::{Answered, answer};
 use octets::same_octets;
+use std::io::Stdout;
 
 // As `boxed`, and setup's answer is told.
-pub fn set_up(shown: &[u8], text: &[u8]) -> bool {
+pub fn set_up(stdout: Stdout, shown: &[u8], text: &[u8]) -> bool {
     if same_octets(before(text, b' '), b"links") {
-        return boxed(shown, after(text, b' '), true);
+        return boxed(stdout, shown, after(text, b' '), true);
     }
     false
 }
 
-pub fn boxed(shown: &[u8], text: &[u8], told: bool) -> bool {
+pub fn boxed(stdout: Stdout, shown: &[u8], text: &[u8], told: bool) -> bool {
     if are_calls(after(text, b':')) {
         if are_settings(before(text, b':')) {
-            show::pair(before(shown, b':'), b":");
-            send(configured(before(text, b':'), told), after(text, b':'));
+            show::pair(stdout, before(shown, b':'), b":");
+            send(
+                stdout,
+                configured(stdout, before(text, b':'), told),
+                after(text, b':'),
+            );
             return true;
         }
     }
@@ -66,7 +71,7 @@ fn field(head: &[u8], k: usize) -> &[u8] {
 }
 
 // The box that setup returns. Where links stand alone, the vendor is 0, the text empty and the address zero.
-fn configured(head: &[u8], told: bool) -> Device {
+fn configured(stdout: Stdout, head: &[u8], told: bool) -> Device {
     let mut text = [0u8; MAX_OCTETS];
     let mut address = [0u8; MAX_OCTETS];
     let t = octets(field(head, 2), &mut text);
@@ -76,6 +81,7 @@ fn configured(head: &[u8], told: bool) -> Device {
     }
     let vendor = (number(field(head, 1)) % 4294967296) as u32;
     set(
+        stdout,
         number(before(head, b',')),
         vendor,
         front(&text, t),
@@ -84,49 +90,56 @@ fn configured(head: &[u8], told: bool) -> Device {
     )
 }
 
-fn set(links: usize, vendor: u32, text: &[u8], address: &[u8], told: bool) -> Device {
+fn set(
+    stdout: Stdout,
+    links: usize,
+    vendor: u32,
+    text: &[u8],
+    address: &[u8],
+    told: bool,
+) -> Device {
     let configured = setup(links, vendor, text, address);
     let answer = configured.answer;
-    tell(answer.number() as usize, told);
+    tell(stdout, answer.number() as usize, told);
     configured.device
 }
 
 // The answer of setup. A refusal is always told.
-fn tell(number: usize, told: bool) {
+fn tell(stdout: Stdout, number: usize, told: bool) {
     if number == 0 {
         if !told {
             return;
         }
     }
-    show::number(b" ", number);
-    show::text(b", then");
+    show::number(stdout, b" ", number);
+    show::text(stdout, b", then");
 }
 
-fn send(device: Device, bodies: &[u8]) {
+fn send(stdout: Stdout, device: Device, bodies: &[u8]) {
     let mut device = device;
     let mut k: usize = 0;
     let all = pieces(bodies, b'|');
     while k < all {
         if 0 < k {
-            show::text(b", then");
+            show::text(stdout, b", then");
         }
-        device = reply(device, piece(bodies, b'|', k));
+        device = reply(stdout, device, piece(bodies, b'|', k));
         k += 1;
     }
 }
 
 // A body and the reply to it; the box after it.
-fn reply(device: Device, text: &[u8]) -> Device {
+fn reply(stdout: Stdout, device: Device, text: &[u8]) -> Device {
     let mut body = [0u8; MAX_OCTETS];
     let n = octets(text, &mut body);
-    show::pair(b" ", text);
-    told(device, front(&body, n))
+    show::pair(stdout, b" ", text);
+    told(stdout, device, front(&body, n))
 }
 
-fn told(device: Device, body: &[u8]) -> Device {
+fn told(stdout: Stdout, device: Device, body: &[u8]) -> Device {
     let mut out = [0u8; Device::MAX_REPLY];
     let answered = ask(device, body, &mut out);
-    show_reply(&out, answered.len);
+    show_reply(stdout, &out, answered.len);
     answered.device
 }
 
@@ -142,10 +155,10 @@ fn ask(device: Device, body: &[u8], out: &mut [u8; Device::MAX_REPLY]) -> Answer
     Answered { device, len: 0 }
 }
 
-fn show_reply(out: &[u8; Device::MAX_REPLY], len: usize) {
+fn show_reply(stdout: Stdout, out: &[u8; Device::MAX_REPLY], len: usize) {
     if len == 0 {
-        show::text(b" = none");
+        show::text(stdout, b" = none");
     } else {
-        show::octets(b" =", front(out, len));
+        show::octets(stdout, b" =", front(out, len));
     }
 }

@@ -7,37 +7,37 @@ use crate::show::MAX_SHOWN;
 use crate::text::{MAX_OCTETS, after, before, front, is_octets, octets};
 use frame::{fcs16, write_frame};
 use hdlc::Reader;
-use libc::STDOUT_FILENO;
 use octets::same_octets;
+use std::io::Stdout;
 
-pub fn check(shown: &[u8], text: &[u8]) -> bool {
+pub fn check(stdout: Stdout, shown: &[u8], text: &[u8]) -> bool {
     let mut out = [0u8; MAX_OCTETS];
     if is_octets(text) {
         let n = octets(text, &mut out);
-        show::pair(shown, b" = ");
-        io::print_hex(STDOUT_FILENO, fcs16(front(&out, n)) as u64, 4);
+        show::pair(stdout, shown, b" = ");
+        show::hex(stdout, fcs16(front(&out, n)));
         return true;
     }
     false
 }
 
-pub fn frame(shown: &[u8], text: &[u8]) -> bool {
+pub fn frame(stdout: Stdout, shown: &[u8], text: &[u8]) -> bool {
     let mut out = [0u8; MAX_OCTETS];
     if same_octets(before(text, b' '), b"of") {
         let n = octets(after(text, b' '), &mut out);
-        return framed(shown, front(&out, n));
+        return framed(stdout, shown, front(&out, n));
     }
     false
 }
 
-fn framed(shown: &[u8], body: &[u8]) -> bool {
+fn framed(stdout: Stdout, shown: &[u8], body: &[u8]) -> bool {
     let mut out = [0u8; MAX_SHOWN];
     if is_body(body) {
         let count = write_frame(body, &mut out);
-        show::text(shown);
-        show::octets(b" =", front(&out, count));
-        show::number(b", ", count);
-        show::text(b" octets");
+        show::text(stdout, shown);
+        show::octets(stdout, b" =", front(&out, count));
+        show::number(stdout, b", ", count);
+        show::text(stdout, b" octets");
         return true;
     }
     false

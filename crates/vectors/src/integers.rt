@@ -2,22 +2,23 @@
 use crate::show;
 use crate::text::{MAX_OCTETS, front, is_number, is_octets, number, octets};
 use packed::{Cause, Fault, Packed, read_packed, write_packed};
+use std::io::Stdout;
 
 // A number written, and what was written read back.
-pub fn packed(shown: &[u8], text: &[u8]) -> bool {
+pub fn packed(stdout: Stdout, shown: &[u8], text: &[u8]) -> bool {
     let mut out = [0u8; 3];
     if is_number(text, Packed::MAX as usize) {
         let end = put(number(text), &mut out);
-        written(shown, front(&out, end));
+        written(stdout, shown, front(&out, end));
         return true;
     }
     false
 }
 
-fn written(shown: &[u8], octets: &[u8]) {
-    show::text(shown);
-    show::octets(b" =", octets);
-    found(b", ", read_packed(octets, 0));
+fn written(stdout: Stdout, shown: &[u8], octets: &[u8]) {
+    show::text(stdout, shown);
+    show::octets(stdout, b" =", octets);
+    found(stdout, b", ", read_packed(octets, 0));
 }
 
 // A number at the front of `out`, and the place after it; 0 where the writer does not take these.
@@ -32,42 +33,42 @@ fn put(n: usize, out: &mut [u8]) -> usize {
     write_packed(out, 0, n as u32)
 }
 
-pub fn read(shown: &[u8], text: &[u8]) -> bool {
+pub fn read(stdout: Stdout, shown: &[u8], text: &[u8]) -> bool {
     let mut out = [0u8; MAX_OCTETS];
     if is_octets(text) {
         let n = octets(text, &mut out);
-        show::text(shown);
-        found(b": ", read_packed(front(&out, n), 0));
+        show::text(stdout, shown);
+        found(stdout, b": ", read_packed(front(&out, n), 0));
         return true;
     }
     false
 }
 
-fn found(word: &[u8], p: Packed) {
+fn found(stdout: Stdout, word: &[u8], p: Packed) {
     match p {
         Packed::Number(n, next) => {
-            show::number(word, n as usize);
-            show::number(b" up to ", next);
+            show::number(stdout, word, n as usize);
+            show::number(stdout, b" up to ", next);
         }
         Packed::Unreadable(fault) => {
-            show::pair(word, b"unreadable");
-            why(fault);
+            show::pair(stdout, word, b"unreadable");
+            why(stdout, fault);
         }
     }
 }
 
 // The fault of a packed integer, where that is the cause.
-pub fn tell(cause: Cause) {
+pub fn tell(stdout: Stdout, cause: Cause) {
     match cause {
         Cause::None => {}
-        Cause::Integer(fault) => why(fault),
+        Cause::Integer(fault) => why(stdout, fault),
     }
 }
 
-fn why(fault: Fault) {
+fn why(stdout: Stdout, fault: Fault) {
     match fault {
-        Fault::RanOut => show::text(b" (octets ran out)"),
-        Fault::GoesOn => show::text(b" (a third octet with its top bit set)"),
-        Fault::NotShortest => show::text(b" (a shorter spelling exists)"),
+        Fault::RanOut => show::text(stdout, b" (octets ran out)"),
+        Fault::GoesOn => show::text(stdout, b" (a third octet with its top bit set)"),
+        Fault::NotShortest => show::text(stdout, b" (a shorter spelling exists)"),
     }
 }

@@ -8,6 +8,7 @@ use hdlc::Reader;
 use octets::same_octets;
 use property::slot;
 use serial::{Received, receive};
+use std::io::Stdout;
 
 // What every octet of the lent buffers is before a call.
 const FILLING: u8 = 0x55;
@@ -23,13 +24,13 @@ struct Given {
     known: bool,
 }
 
-pub fn received(shown: &[u8], text: &[u8]) -> bool {
+pub fn received(stdout: Stdout, shown: &[u8], text: &[u8]) -> bool {
     let given = all_changed(before(text, b':'));
     if pieces(text, b':') == 2 {
         if is_octets(after(text, b':')) {
             if given.known {
-                show::text(shown);
-                call(given, after(text, b':'));
+                show::text(stdout, shown);
+                call(stdout, given, after(text, b':'));
                 return true;
             }
         }
@@ -196,16 +197,16 @@ fn held(value: &[u8]) -> Held {
     }
 }
 
-fn call(given: Given, text: &[u8]) {
+fn call(stdout: Stdout, given: Given, text: &[u8]) {
     let mut input = [0u8; MAX_OCTETS];
     let mut assembly = [FILLING; MAX_OCTETS];
     let mut output = [FILLING; MAX_OCTETS];
     let n = octets(text, &mut input);
-    lend(given, front(&input, n), &mut assembly, &mut output);
+    lend(stdout, given, front(&input, n), &mut assembly, &mut output);
 }
 
 // Lends so many octets of each buffer as are given.
-fn lend(given: Given, input: &[u8], assembly: &mut [u8], output: &mut [u8]) {
+fn lend(stdout: Stdout, given: Given, input: &[u8], assembly: &mut [u8], output: &mut [u8]) {
     let a = given.assembly;
     let o = given.output;
     if a <= assembly.len() {
@@ -217,49 +218,49 @@ fn lend(given: Given, input: &[u8], assembly: &mut [u8], output: &mut [u8]) {
                 &mut assembly[0..a],
                 &mut output[0..o],
             );
-            tell(given, received);
-            touched(b", assembly", assembly);
-            touched(b", output", output);
+            tell(stdout, given, received);
+            touched(stdout, b", assembly", assembly);
+            touched(stdout, b", output", output);
         }
     }
 }
 
-fn tell(given: Given, received: Received) {
+fn tell(stdout: Stdout, given: Given, received: Received) {
     let answer = received.answer;
     let device = received.device;
     let reader = received.reader;
-    show::number(b" = ", answer.number() as usize);
-    show::number(b", read ", received.read);
-    show::number(b", wrote ", received.written);
+    show::number(stdout, b" = ", answer.number() as usize);
+    show::number(stdout, b", read ", received.read);
+    show::number(stdout, b", wrote ", received.written);
     if same_device(given.device, device) {
-        show::text(b", box as given");
+        show::text(stdout, b", box as given");
     } else {
-        show::text(b", box changed");
+        show::text(stdout, b", box changed");
     }
-    tell_reader(given.reader, reader);
+    tell_reader(stdout, given.reader, reader);
 }
 
 // A reader that is another one is told in the words of a change.
-fn tell_reader(given: Reader, reader: Reader) {
+fn tell_reader(stdout: Stdout, given: Reader, reader: Reader) {
     if given.count == reader.count {
         if given.escaped == reader.escaped {
             if given.discarding == reader.discarding {
-                show::text(b", reader as given");
+                show::text(stdout, b", reader as given");
                 return;
             }
         }
     }
-    show::number(b", reader ", reader.count);
+    show::number(stdout, b", reader ", reader.count);
     if reader.escaped {
-        show::text(b", escaped");
+        show::text(stdout, b", escaped");
     }
     if reader.discarding {
-        show::text(b", discarding");
+        show::text(stdout, b", discarding");
     }
 }
 
 // The octets of a buffer from the first to the last that is not the filling.
-fn touched(word: &[u8], buffer: &[u8]) {
+fn touched(stdout: Stdout, word: &[u8], buffer: &[u8]) {
     let mut start: usize = 0;
     let mut end: usize = 0;
     let mut i: usize = 0;
@@ -272,13 +273,13 @@ fn touched(word: &[u8], buffer: &[u8]) {
         }
         i += 1;
     }
-    show::text(word);
+    show::text(stdout, word);
     if end == 0 {
-        show::text(b" untouched");
+        show::text(stdout, b" untouched");
         return;
     }
-    show::number(b" from ", start);
-    show::octets(b":", &buffer[start..end]);
+    show::number(stdout, b" from ", start);
+    show::octets(stdout, b":", &buffer[start..end]);
 }
 
 fn same_device(a: Device, b: Device) -> bool {

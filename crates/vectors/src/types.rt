@@ -5,17 +5,18 @@ use crate::text::{
 use crate::{integers, show};
 use datatype::{Answer, Payload, read_typed};
 use octets::same_octets;
+use std::io::Stdout;
 
 // The longest list that is lent: one that is always long enough.
 const MAX_LIST: usize = Payload::MAX_NUMBERS;
 
-pub fn typed(shown: &[u8], text: &[u8]) -> bool {
+pub fn typed(stdout: Stdout, shown: &[u8], text: &[u8]) -> bool {
     let mut payload = [0u8; MAX_OCTETS];
     let list = piece(text, b',', 2);
     if is_typed(text, list) {
         let n = octets(piece(text, b',', 1), &mut payload);
-        show::pair(shown, b": ");
-        read(before(text, b','), front(&payload, n), list);
+        show::pair(stdout, shown, b": ");
+        read(stdout, before(text, b','), front(&payload, n), list);
         return true;
     }
     false
@@ -47,13 +48,13 @@ fn is_list(words: &[u8]) -> bool {
 }
 
 // A reading into the first numbers of a list of sevens, and what the list is then.
-fn read(types: &[u8], payload: &[u8], words: &[u8]) {
+fn read(stdout: Stdout, types: &[u8], payload: &[u8], words: &[u8]) {
     let mut list = [7u32; MAX_LIST];
-    let count = answered(within(types, payload, &mut list, room(words)));
+    let count = answered(stdout, within(types, payload, &mut list, room(words)));
     match lead(words) {
-        b'f' => numbers(b", now", &list[0..8]),
-        b'l' => last(count, &list),
-        _ => leaves(count, &list),
+        b'f' => numbers(stdout, b", now", &list[0..8]),
+        b'l' => last(stdout, count, &list),
+        _ => leaves(stdout, count, &list),
     }
 }
 
@@ -74,44 +75,44 @@ fn within(types: &[u8], payload: &[u8], list: &mut [u32], room: usize) -> Answer
 }
 
 // Tells the answer's number and its cause, and returns how many leaves there are.
-fn answered(answer: Answer) -> usize {
-    show::number(b"", answer.number() as usize);
+fn answered(stdout: Stdout, answer: Answer) -> usize {
+    show::number(stdout, b"", answer.number() as usize);
     match answer {
         Answer::Leaves(count) => {
-            show::number(b" with ", count);
+            show::number(stdout, b" with ", count);
             count
         }
         Answer::Misfit(cause) => {
-            integers::tell(cause);
+            integers::tell(stdout, cause);
             0
         }
         _ => 0,
     }
 }
 
-fn leaves(count: usize, list: &[u32]) {
+fn leaves(stdout: Stdout, count: usize, list: &[u32]) {
     let mut k: usize = 0;
     while k < count {
         if k == 0 {
-            leaf(b": ", k, list);
+            leaf(stdout, b": ", k, list);
         } else {
-            leaf(b", ", k, list);
+            leaf(stdout, b", ", k, list);
         }
         k += 1;
     }
 }
 
-fn last(count: usize, list: &[u32]) {
+fn last(stdout: Stdout, count: usize, list: &[u32]) {
     if 0 < count {
-        leaf(b", last ", count - 1, list);
+        leaf(stdout, b", last ", count - 1, list);
     }
 }
 
 // A leaf after a word: its letter, its start and its length.
-fn leaf(word: &[u8], k: usize, list: &[u32]) {
+fn leaf(stdout: Stdout, word: &[u8], k: usize, list: &[u32]) {
     if k < MAX_LIST {
-        show::text(word);
-        three(part(list, 3 * k));
+        show::text(stdout, word);
+        three(stdout, part(list, 3 * k));
     }
 }
 
@@ -122,19 +123,19 @@ fn part(list: &[u32], at: usize) -> &[u32] {
     &list[at..]
 }
 
-fn three(list: &[u32]) {
+fn three(stdout: Stdout, list: &[u32]) {
     if 3 <= list.len() {
         let letter = [(list[0] % 256) as u8];
-        numbers(&letter, &list[1..3]);
+        numbers(stdout, &letter, &list[1..3]);
     }
 }
 
 // A word, and each number after a space.
-fn numbers(word: &[u8], list: &[u32]) {
+fn numbers(stdout: Stdout, word: &[u8], list: &[u32]) {
     let mut i = 0;
-    show::text(word);
+    show::text(stdout, word);
     while i < list.len() {
-        show::number(b" ", list[i] as usize);
+        show::number(stdout, b" ", list[i] as usize);
         i += 1;
     }
 }

@@ -2,40 +2,53 @@
 use crate::show;
 use crate::text::{MAX_OCTETS, are_calls, front, octets, piece, pieces};
 use hdlc::{Fate, Reader, Reading, read_frame};
+use std::io::Stdout;
 
 type Assembly = [u8; Reader::MAX_GATHERED];
 
-pub fn wire(shown: &[u8], text: &[u8], first_told: bool) -> bool {
+pub fn wire(stdout: Stdout, shown: &[u8], text: &[u8], first_told: bool) -> bool {
     if are_calls(text) {
-        show::pair(shown, b":");
-        run(text, first_told);
+        show::pair(stdout, shown, b":");
+        run(stdout, text, first_told);
         return true;
     }
     false
 }
 
 // The calls, of which the first may go untold.
-fn run(text: &[u8], first_told: bool) {
+fn run(stdout: Stdout, text: &[u8], first_told: bool) {
     let mut assembly = [0u8; Reader::MAX_GATHERED];
     let mut reader = Reader::fresh();
     let mut told = first_told;
     let mut k: usize = 0;
     let all = pieces(text, b'|');
     while k < all {
-        reader = call(reader, piece(text, b'|', k), &mut assembly, told);
+        reader = call(stdout, reader, piece(text, b'|', k), &mut assembly, told);
         told = true;
         k += 1;
     }
 }
 
-fn call(reader: Reader, text: &[u8], assembly: &mut Assembly, told: bool) -> Reader {
+fn call(
+    stdout: Stdout,
+    reader: Reader,
+    text: &[u8],
+    assembly: &mut Assembly,
+    told: bool,
+) -> Reader {
     let mut chunk = [0u8; MAX_OCTETS];
     let n = octets(text, &mut chunk);
-    feed(reader, front(&chunk, n), assembly, told)
+    feed(stdout, reader, front(&chunk, n), assembly, told)
 }
 
 // Offers a chunk until it is used up.
-fn feed(reader: Reader, chunk: &[u8], assembly: &mut Assembly, told: bool) -> Reader {
+fn feed(
+    stdout: Stdout,
+    reader: Reader,
+    chunk: &[u8],
+    assembly: &mut Assembly,
+    told: bool,
+) -> Reader {
     let mut reader = reader;
     let mut at: usize = 0;
     while at < chunk.len() {
@@ -51,7 +64,7 @@ fn feed(reader: Reader, chunk: &[u8], assembly: &mut Assembly, told: bool) -> Re
         }
         at += read;
         if told {
-            tell(fate, read, assembly);
+            tell(stdout, fate, read, assembly);
         }
     }
     reader
@@ -69,14 +82,14 @@ fn offer(reader: Reader, chunk: &[u8], assembly: &mut Assembly) -> Reading {
     }
 }
 
-fn tell(fate: Fate, read: usize, assembly: &Assembly) {
-    show::number(b" fate ", fate.number() as usize);
-    show::number(b" read ", read);
+fn tell(stdout: Stdout, fate: Fate, read: usize, assembly: &Assembly) {
+    show::number(stdout, b" fate ", fate.number() as usize);
+    show::number(stdout, b" read ", read);
     if let Fate::Checked(n) = fate {
         if 16 < n {
-            show::number(b" body of ", n);
+            show::number(stdout, b" body of ", n);
         } else {
-            show::octets(b" body", front(assembly, n));
+            show::octets(stdout, b" body", front(assembly, n));
         }
     }
 }
