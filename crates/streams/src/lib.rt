@@ -32,3 +32,48 @@ pub fn read_full<R: Read>(reader: &mut R, space: &mut [u8]) -> usize
     }
     done
 }
+
+#[cfg(test)]
+mod tests {
+    use super::*;
+    use std::io::{Error, ErrorKind, Result};
+
+    // Gives its octets one a read, and then fails.
+    #[derive(Drop)]
+    struct Failing<'a>(&'a [u8]);
+
+    impl Read for Failing<'_> {
+        fn read(&mut self, buf: &mut [u8]) -> Result<usize> {
+            if self.0.len() == 0 {
+                return Err(Error::from(ErrorKind::Interrupted));
+            }
+            if buf.len() == 0 {
+                return Ok(0);
+            }
+            buf[0] = self.0[0];
+            self.0 = &self.0[1..];
+            Ok(1)
+        }
+    }
+
+    #[test]
+    fn reads_what_there_is(rt: HostRuntime) {
+        let mut reader: &[u8] = b"octets";
+        let mut space = [0u8; 4];
+        assert_eq!(rt; read_full(&mut reader, &mut space), 4);
+        assert!(rt; space == *b"octe");
+        assert_eq!(rt; read_some(&mut reader, &mut space), 2);
+        assert!(rt; space == *b"tste");
+        assert_eq!(rt; read_some(&mut reader, &mut space), 0);
+    }
+
+    #[test]
+    fn ends_where_a_read_fails(rt: HostRuntime) {
+        let mut reader = Failing(b"abc");
+        let mut space = [0u8; 4];
+        assert_eq!(rt; read_some(&mut reader, &mut space), 1);
+        assert_eq!(rt; read_full(&mut reader, &mut space), 2);
+        assert!(rt; space == *b"bc\0\0");
+        assert_eq!(rt; read_some(&mut reader, &mut space), 0);
+    }
+}
