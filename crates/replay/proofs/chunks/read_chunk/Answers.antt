@@ -1,40 +1,51 @@
 -- The first read gives at most a head, and the second at most the body that it announces.
-use mathlib.Core.Path.{◌≡◌, sym, ◌∙◌}
-use mathlib.Core.List.{List, ◌++◌}
-use Prim.Native.Nat.{ℕ, ◌+◌, ◌-◌, ◌≤◌}
-use native.Mathlib.Omega.{arith}
-use borrow.Author.Rules.{rules}
-use borrow.Rule.Slice.PartMut.{same_len_mid}
-use lib.ListN.{length, take, drop, length-append, length-drop}
-use lib.Seq.{length-take-le}
-use Rattle.replay.specs.Chunks.{body_left}
+use Rattle.std.proofs.Common.{◌≡◌, ℕ, ◌+◌, ◌-◌, ◌≤◌, List, ◌++◌, arith, length, take, drop, ◌∙◌, length-append, length-drop, length-take, length-take-le}
+use Rattle.replay.specs.Chunks.{body_left, max_record}
 use Rattle.replay.proofs.LawsChunks.{left_most, read_is_chunk}
 use Rattle.replay.proofs.chunks.read_chunk.Goals as goal
 
-pub slice_bounds-read_full-end-2 : goal.slice_bounds-read_full-end-2
-slice_bounds-read_full-end-2 c =
-    sym (length-take-le 5 c.args.space.now (omega (arith, c.requires)))
+-- so many octets came to the front of a space, of the five that were lent
+module _ (space front : List ℕ) (came : ℕ) (room : length space ≡ max_record) (lent : length front ≡ length (take 5 space)) (within : came ≤ length front) where
+  -- what the space holds then
+  abbrev held : List ℕ
+  held = front ++ drop 5 space
 
-pub slice_bounds-body_left-end : goal.slice_bounds-body_left-end
-slice_bounds-body_left-end c =
-    omega (arith, (let h : c.read_full-head.result ≤ 5 = omega (arith, c.read_full-head.ensures.0, (let h : length c.read_full-head.new.buf ≡ 5 = c.read_full-head.auto.buf ∙ (let h : length (take 5 c.args.space.now) ≡ 5 = length-take-le 5 c.args.space.now (omega (arith, c.requires)) in h) in h)) in h), (let h : length (c.read_full-head.new.buf ++ drop 5 c.args.space.now) ≡ 1305 = omega (arith, length-append c.read_full-head.new.buf (drop 5 c.args.space.now), length-drop 5 c.args.space.now, (let h : length c.read_full-head.new.buf ≡ 5 = c.read_full-head.auto.buf ∙ (let h : length (take 5 c.args.space.now) ≡ 5 = length-take-le 5 c.args.space.now (omega (arith, c.requires)) in h) in h), c.requires) in h))
+  five : length front ≡ 5
+  five = lent ∙ length-take-le 5 space (omega (arith, room))
 
-pub slice_bounds-body_left-end-2 : goal.slice_bounds-body_left-end-2
-slice_bounds-body_left-end-2 c =
-    sym (length-take-le _ ((c.read_full-head.new.buf ++ drop 5 c.args.space.now)) (omega (arith, (let h : c.read_full-head.result ≤ 5 = omega (arith, c.read_full-head.ensures.0, (let h : length c.read_full-head.new.buf ≡ 5 = c.read_full-head.auto.buf ∙ (let h : length (take 5 c.args.space.now) ≡ 5 = length-take-le 5 c.args.space.now (omega (arith, c.requires)) in h) in h)) in h), (let h : length (c.read_full-head.new.buf ++ drop 5 c.args.space.now) ≡ 1305 = omega (arith, length-append c.read_full-head.new.buf (drop 5 c.args.space.now), length-drop 5 c.args.space.now, (let h : length c.read_full-head.new.buf ≡ 5 = c.read_full-head.auto.buf ∙ (let h : length (take 5 c.args.space.now) ≡ 5 = length-take-le 5 c.args.space.now (omega (arith, c.requires)) in h) in h), c.requires) in h))))
+  size : length held ≡ max_record
+  size = omega (arith, length-append front (drop 5 space), length-drop 5 space, five, room)
+
+  few : came ≤ 5
+  few = omega (arith, within, five)
+
+  -- the body that these announce has room behind them
+  most : {left : ℕ} → left ≡ body_left (take came held) → came + left ≤ max_record
+  most e = omega (arith, few, e, left_most (take came held))
 
 pub overflow_add-end : goal.overflow_add-end
 overflow_add-end c =
-    omega (arith, (let h : c.read_full-head.result + c.body_left.result ≤ 1305 = omega (arith, (let h : c.read_full-head.result ≤ 5 = omega (arith, c.read_full-head.ensures.0, (let h : length c.read_full-head.new.buf ≡ 5 = c.read_full-head.auto.buf ∙ (let h : length (take 5 c.args.space.now) ≡ 5 = length-take-le 5 c.args.space.now (omega (arith, c.requires)) in h) in h)) in h), c.body_left.ensures, left_most (take c.read_full-head.result ((c.read_full-head.new.buf ++ drop 5 c.args.space.now)))) in h))
+    let head = c.read_full-head in
+    omega (arith, most c.args.space.now head.new.space head.result c.requires head.auto.space head.ensures.in_bounds c.body_left.ensures)
 
 pub slice_bounds-read_full-end-3 : goal.slice_bounds-read_full-end-3
 slice_bounds-read_full-end-3 c =
-    omega (arith, (let h : c.read_full-head.result + c.body_left.result ≤ 1305 = omega (arith, (let h : c.read_full-head.result ≤ 5 = omega (arith, c.read_full-head.ensures.0, (let h : length c.read_full-head.new.buf ≡ 5 = c.read_full-head.auto.buf ∙ (let h : length (take 5 c.args.space.now) ≡ 5 = length-take-le 5 c.args.space.now (omega (arith, c.requires)) in h) in h)) in h), c.body_left.ensures, left_most (take c.read_full-head.result ((c.read_full-head.new.buf ++ drop 5 c.args.space.now)))) in h), (let h : length (c.read_full-head.new.buf ++ drop 5 c.args.space.now) ≡ 1305 = omega (arith, length-append c.read_full-head.new.buf (drop 5 c.args.space.now), length-drop 5 c.args.space.now, (let h : length c.read_full-head.new.buf ≡ 5 = c.read_full-head.auto.buf ∙ (let h : length (take 5 c.args.space.now) ≡ 5 = length-take-le 5 c.args.space.now (omega (arith, c.requires)) in h) in h), c.requires) in h))
+    let head = c.read_full-head in
+    omega
+    (
+      arith,
+      most c.args.space.now head.new.space head.result c.requires head.auto.space head.ensures.in_bounds c.body_left.ensures,
+      size c.args.space.now head.new.space head.result c.requires head.auto.space head.ensures.in_bounds,
+    )
 
-pub overflow_add-result : goal.overflow_add-result
-overflow_add-result c =
-    omega (arith, (let h : c.read_full-head.result + c.body_left.result ≤ 1305 = omega (arith, (let h : c.read_full-head.result ≤ 5 = omega (arith, c.read_full-head.ensures.0, (let h : length c.read_full-head.new.buf ≡ 5 = c.read_full-head.auto.buf ∙ (let h : length (take 5 c.args.space.now) ≡ 5 = length-take-le 5 c.args.space.now (omega (arith, c.requires)) in h) in h)) in h), c.body_left.ensures, left_most (take c.read_full-head.result ((c.read_full-head.new.buf ++ drop 5 c.args.space.now)))) in h), (let h : length c.read_full.new.buf ≡ c.body_left.result = let part : c.read_full-head.result + c.body_left.result - c.read_full-head.result ≡ c.body_left.result = omega arith in let room : c.body_left.result ≤ length (drop c.read_full-head.result ((c.read_full-head.new.buf ++ drop 5 c.args.space.now))) = omega (arith, (let h : c.read_full-head.result + c.body_left.result ≤ 1305 = omega (arith, (let h : c.read_full-head.result ≤ 5 = omega (arith, c.read_full-head.ensures.0, (let h : length c.read_full-head.new.buf ≡ 5 = c.read_full-head.auto.buf ∙ (let h : length (take 5 c.args.space.now) ≡ 5 = length-take-le 5 c.args.space.now (omega (arith, c.requires)) in h) in h)) in h), c.body_left.ensures, left_most (take c.read_full-head.result ((c.read_full-head.new.buf ++ drop 5 c.args.space.now)))) in h), (let h : length (c.read_full-head.new.buf ++ drop 5 c.args.space.now) ≡ 1305 = omega (arith, length-append c.read_full-head.new.buf (drop 5 c.args.space.now), length-drop 5 c.args.space.now, (let h : length c.read_full-head.new.buf ≡ 5 = c.read_full-head.auto.buf ∙ (let h : length (take 5 c.args.space.now) ≡ 5 = length-take-le 5 c.args.space.now (omega (arith, c.requires)) in h) in h), c.requires) in h), length-drop c.read_full-head.result ((c.read_full-head.new.buf ++ drop 5 c.args.space.now))) in c.read_full.auto.buf ∙ rw part (length-take-le c.body_left.result (drop c.read_full-head.result ((c.read_full-head.new.buf ++ drop 5 c.args.space.now))) room) in h), c.read_full.ensures.0)
-
-pub returns : goal.returns
-returns c =
-    let f = c in record { room = omega (arith, same_len_mid (c.read_full-head.result) (c.read_full-head.result + c.body_left.result - c.read_full-head.result) (held f) c.read_full.new.buf c.read_full.auto.buf, size f, (let h : c.read_full-head.result + c.body_left.result ≤ 1305 = omega (arith, (let h : c.read_full-head.result ≤ 5 = omega (arith, c.read_full-head.ensures.0, (let h : length c.read_full-head.new.buf ≡ 5 = c.read_full-head.auto.buf ∙ (let h : length (take 5 c.args.space.now) ≡ 5 = length-take-le 5 c.args.space.now (omega (arith, c.requires)) in h) in h)) in h), c.body_left.ensures, left_most (take c.read_full-head.result ((c.read_full-head.new.buf ++ drop 5 c.args.space.now)))) in h), (let h : length c.read_full.new.buf ≡ c.body_left.result = let part : c.read_full-head.result + c.body_left.result - c.read_full-head.result ≡ c.body_left.result = omega arith in let room : c.body_left.result ≤ length (drop c.read_full-head.result ((c.read_full-head.new.buf ++ drop 5 c.args.space.now))) = omega (arith, (let h : c.read_full-head.result + c.body_left.result ≤ 1305 = omega (arith, (let h : c.read_full-head.result ≤ 5 = omega (arith, c.read_full-head.ensures.0, (let h : length c.read_full-head.new.buf ≡ 5 = c.read_full-head.auto.buf ∙ (let h : length (take 5 c.args.space.now) ≡ 5 = length-take-le 5 c.args.space.now (omega (arith, c.requires)) in h) in h)) in h), c.body_left.ensures, left_most (take c.read_full-head.result ((c.read_full-head.new.buf ++ drop 5 c.args.space.now)))) in h), (let h : length (c.read_full-head.new.buf ++ drop 5 c.args.space.now) ≡ 1305 = omega (arith, length-append c.read_full-head.new.buf (drop 5 c.args.space.now), length-drop 5 c.args.space.now, (let h : length c.read_full-head.new.buf ≡ 5 = c.read_full-head.auto.buf ∙ (let h : length (take 5 c.args.space.now) ≡ 5 = length-take-le 5 c.args.space.now (omega (arith, c.requires)) in h) in h), c.requires) in h), length-drop c.read_full-head.result ((c.read_full-head.new.buf ++ drop 5 c.args.space.now))) in c.read_full.auto.buf ∙ rw part (length-take-le c.body_left.result (drop c.read_full-head.result ((c.read_full-head.new.buf ++ drop 5 c.args.space.now))) room) in h), c.read_full.ensures.0); chunk = read_is_chunk (held f) _ (c.read_full-head.result) c.read_full.result (few f) (omega (arith, few f, size f)) ((let h : c.read_full.result ≤ body_left (take c.read_full-head.result ((c.read_full-head.new.buf ++ drop 5 c.args.space.now))) = omega (arith, c.read_full.ensures.0, (let h : length c.read_full.new.buf ≡ c.body_left.result = let part : c.read_full-head.result + c.body_left.result - c.read_full-head.result ≡ c.body_left.result = omega arith in let room : c.body_left.result ≤ length (drop c.read_full-head.result ((c.read_full-head.new.buf ++ drop 5 c.args.space.now))) = omega (arith, (let h : c.read_full-head.result + c.body_left.result ≤ 1305 = omega (arith, (let h : c.read_full-head.result ≤ 5 = omega (arith, c.read_full-head.ensures.0, (let h : length c.read_full-head.new.buf ≡ 5 = c.read_full-head.auto.buf ∙ (let h : length (take 5 c.args.space.now) ≡ 5 = length-take-le 5 c.args.space.now (omega (arith, c.requires)) in h) in h)) in h), c.body_left.ensures, left_most (take c.read_full-head.result ((c.read_full-head.new.buf ++ drop 5 c.args.space.now)))) in h), (let h : length (c.read_full-head.new.buf ++ drop 5 c.args.space.now) ≡ 1305 = omega (arith, length-append c.read_full-head.new.buf (drop 5 c.args.space.now), length-drop 5 c.args.space.now, (let h : length c.read_full-head.new.buf ≡ 5 = c.read_full-head.auto.buf ∙ (let h : length (take 5 c.args.space.now) ≡ 5 = length-take-le 5 c.args.space.now (omega (arith, c.requires)) in h) in h), c.requires) in h), length-drop c.read_full-head.result ((c.read_full-head.new.buf ++ drop 5 c.args.space.now))) in c.read_full.auto.buf ∙ rw part (length-take-le c.body_left.result (drop c.read_full-head.result ((c.read_full-head.new.buf ++ drop 5 c.args.space.now))) room) in h), c.body_left.ensures) in h)) }
+pub returns-clause-chunk : goal.returns-clause-chunk
+returns-clause-chunk c =
+    let head = c.read_full-head in
+    let body = c.read_full in
+    let space : List ℕ = held c.args.space.now head.new.space head.result c.requires head.auto.space head.ensures.in_bounds in
+    let lent = head.result + c.body_left.result - head.result in
+    let few_came = few c.args.space.now head.new.space head.result c.requires head.auto.space head.ensures.in_bounds in
+    let all = size c.args.space.now head.new.space head.result c.requires head.auto.space head.ensures.in_bounds in
+    let more : body.result ≤ body_left (take head.result space) =
+    omega (arith, body.ensures.in_bounds, body.auto.space, c.body_left.ensures, length-take lent (drop head.result space)) in
+    read_is_chunk space _ head.result body.result few_came (omega (arith, few_came, all)) more
