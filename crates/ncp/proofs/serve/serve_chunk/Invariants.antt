@@ -1,17 +1,14 @@
 -- The measure is how much of the chunk is left. The invariant: what stands and what is left come to what the start and the chunk come to.
-use mathlib.Core.Path.{◌≡◌, refl, ◌∙◌}
-use native.Mathlib.Omega.{arith}
-use borrow.Author.Rules.{rules}
 use lib.ListN.{length}
-use Rattle.octets.proofs.LawsTests.{impossible}
 use Rattle.ncp.specs.Serve.{state_of, KeepsState}
-use Rattle.ncp.proofs.LawsServing.{Left, left_start, left_end, Went, went}
+use Rattle.ncp.proofs.LawsServing.{Left}
 use Rattle.ncp.proofs.serve.serve_chunk.Given as goal
 
 abbrev pub invariant-loop-rest : goal.invariant-loop-rest
-invariant-loop-rest l =
-    (length l.assembly ≡ length l.initial.assembly) × KeepsState (state_of l.session l.assembly) × Left (state_of l.initial.session l.initial.assembly) l.chunk (state_of l.session l.assembly) l.rest
+invariant-loop-rest l = record {
+  keeps : KeepsState (state_of l.session l.assembly);
+  left : Left (state_of l.initial.session l.initial.assembly) l.chunk (state_of l.session l.assembly) l.rest;
+}
 
 abbrev pub decreases-loop-rest : goal.decreases-loop-rest
-decreases-loop-rest l =
-    length l.rest
+decreases-loop-rest l = length l.rest

@@ -1,9 +1,8 @@
 -- What was written is the engine's reply, whose line fits.
 use mathlib.Core.Path.{refl, sym}
 use native.Mathlib.Omega.{arith}
-use borrow.Author.Rules.{rules}
 use lib.Seq.{length-take-le}
-use Rattle.serial.specs.Receiving.{Result, result_of}
+use Rattle.serial.specs.Receiving.{result_of}
 use Rattle.ncp.proofs.LawsTurns.{Turned, turned}
 use Rattle.ncp.proofs.turn.receive_line.Goals as goal
 
