@@ -1,6 +1,5 @@
 -- Each return is a case of the definition.
 use mathlib.Core.Path.{sym, ap, ◌∙◌}
-use borrow.Author.Rules.{rules}
 use Rattle.capture.specs.Reading.{reported}
 use Rattle.replay.proofs.LawsChunks.{left_no_head, left_body, left_none}
 use borrow.Enum.Refused.{opened}

@@ -31,8 +31,7 @@ overflow_add-end c =
 pub slice_bounds-read_full-end-3 : goal.slice_bounds-read_full-end-3
 slice_bounds-read_full-end-3 c =
     let head = c.read_full-head in
-    omega
-    (
+    omega (
       arith,
       most c.args.space.now head.new.space head.result c.requires head.auto.space head.ensures.in_bounds c.body_left.ensures,
       size c.args.space.now head.new.space head.result c.requires head.auto.space head.ensures.in_bounds,

@@ -1,6 +1,5 @@
 -- A body with other top bits is dropped; any other is the engine's.
 use native.Mathlib.Omega.{arith}
-use borrow.Author.Rules.{rules}
 use borrow.Author.Tests.{ne_eqb}
 use Rattle.replay.specs.Play.{delivered}
 use Rattle.replay.proofs.LawsPlay.{delivered_keeps, delivered_state}

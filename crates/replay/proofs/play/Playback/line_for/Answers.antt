@@ -1,7 +1,6 @@
 -- The reply stands at the front of its array.
 use mathlib.Core.List.{[], ◌∷◌}
 use mathlib.Core.Path.{sym, ap, ◌∙◌}
-use borrow.Author.Rules.{rules}
 use lib.Seq.{length-take-le}
 use Rattle.replay.proofs.play.Playback.line_for.Goals as goal
 
