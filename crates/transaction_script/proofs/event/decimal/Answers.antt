@@ -1,11 +1,10 @@
 -- The invariant: taking the digits that are left from here is taking all.
-use mathlib.Core.Path.{◌≡◌, refl, sym, ap, ◌∙◌}
+use mathlib.Core.Path.{refl, sym, ap, ◌∙◌}
 use mathlib.Core.List.{foldl}
-use Prim.Native.Nat.{◌+◌, ◌-◌, ◌≤◌}
+use Prim.Native.Nat.{◌+◌}
 use native.Mathlib.Omega.{arith}
-use borrow.Author.Rules.{rules}
 use borrow.Author.Tests.{eq-eqb, ne_eqb}
-use lib.ListN.{length, drop}
+use lib.ListN.{drop}
 use Rattle.transaction_script.specs.Event.{with_digit, decimal_in}
 use Rattle.transaction_script.proofs.LawsFolding.{take_next, none_left}
 use Rattle.transaction_script.proofs.event.decimal.Goals as goal

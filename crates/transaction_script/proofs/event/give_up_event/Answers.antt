@@ -1,5 +1,4 @@
 -- Each way out has the test that `give_up_event` makes.
-use borrow.Author.Rules.{rules}
 use borrow.Author.Tests.{lt-ltb, le-ltb}
 use Rattle.transaction_script.specs.Event.{give_up_event}
 use Rattle.transaction_script.proofs.event.give_up_event.Goals as goal

@@ -1,18 +1,11 @@
 -- Each way out has the tests that `put_event` makes.
 use mathlib.Core.Path.{sym, ◌∙◌}
-use borrow.Author.Rules.{rules}
 use Rattle.transaction_script.specs.Event.{put_event}
 use Rattle.transaction_script.proofs.event.put_event.Goals as goal
 
-pub same_octets-requires : goal.same_octets-requires
-unfolding put_event
-same_octets-requires c =
-    rw (sym c.same-octets.ensures ∙ c.if1.true)
-
 pub returns-then-same_octets : goal.returns-then-same_octets
 unfolding put_event
-returns-then-same_octets c =
-    search rules
+returns-then-same_octets c = rw (sym c.same_octets.ensures ∙ c.if-same_octets.true)
 
 pub returns-then-same_octets-2 : goal.returns-then-same_octets-2
 unfolding put_event

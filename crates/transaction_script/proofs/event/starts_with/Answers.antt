@@ -1,5 +1,4 @@
 -- The front that they have in common is as long as the word.
-use borrow.Author.Rules.{rules}
 use Rattle.transaction_script.specs.Event.{starts_with}
 use Rattle.transaction_script.proofs.event.starts_with.Goals as goal
 

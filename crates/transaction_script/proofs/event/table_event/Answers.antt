@@ -1,7 +1,6 @@
 -- Each way out has the tests that `table_event` makes. Bits come to `no_number` at most, so that those that are a number fit a `u16`.
 use mathlib.Core.Path.{sym, ◌∙◌}
 use native.Mathlib.Omega.{arith}
-use borrow.Author.Rules.{rules}
 use borrow.Author.Tests.{eq-eqb, ne_eqb, lt-ltb, le-ltb}
 use lib.ListN.{take, drop}
 use lib.Seq.{length-take-le}

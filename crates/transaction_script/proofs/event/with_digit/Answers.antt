@@ -1,6 +1,5 @@
 -- Each way out has the tests that `with_digit` makes.
 use native.Mathlib.Omega.{arith}
-use borrow.Author.Rules.{rules}
 use borrow.Author.Tests.{lt-ltb, le-ltb}
 use Rattle.octets.proofs.LawsRanges.{inside, below, above}
 use Rattle.transaction_script.specs.Event.{with_digit}

@@ -1,6 +1,5 @@
 -- Each arm has the event by which `playing` goes.
 use mathlib.Core.Path.{ap, ◌∙◌}
-use borrow.Author.Rules.{rules}
 use Rattle.transaction_script.specs.Play.{ok, reporting, playing}
 use Rattle.transaction_script.proofs.play.play.Goals as goal
 

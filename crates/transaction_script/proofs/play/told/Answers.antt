@@ -1,7 +1,6 @@
 -- A count past the end takes the whole body.
 use mathlib.Core.Path.{ap, sym, ◌∙◌}
 use native.Mathlib.Omega.{arith}
-use borrow.Author.Rules.{rules}
 use lib.Seq.{length-take-le, take_all}
 use Rattle.transactions.specs.Table.{numbers_of, after_reply}
 use Rattle.transaction_script.proofs.play.told.Goals as goal

@@ -1,6 +1,5 @@
 -- The table is what is played of the line's event, and the line is fresh.
 use mathlib.Core.Path.{ap, ◌∙◌}
-use borrow.Author.Rules.{rules}
 use Rattle.transactions.specs.Table.{numbers_of}
 use Rattle.transaction_script.specs.Line.{coming}
 use Rattle.transaction_script.specs.Play.{playing}

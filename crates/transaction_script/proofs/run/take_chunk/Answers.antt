@@ -1,12 +1,12 @@
 -- An octet more is taken, and what is kept of the line has room then too.
-use mathlib.Core.Path.{◌≡◌, sym, ap, subst, ◌∙◌}
+use mathlib.Core.Path.{sym, ap, subst, ◌∙◌}
 use mathlib.Core.List.{foldl}
 use Prim.Native.Nat.{ℕ, ◌+◌, ◌≤◌}
 use native.Mathlib.Omega.{arith}
 use borrow.Author.Tests.{ltb-true}
 use lib.Dec.{eqb, ltb}
 use lib.ListN.{drop}
-use Rattle.octets.proofs.LawsTests.{chosen, impossible}
+use Rattle.octets.proofs.LawsTests.{chosen}
 use Rattle.transaction_script.proofs.LawsFolding.{take_next, none_left}
 use Rattle.transaction_script.specs.Line.{max_text, len_after, taking}
 use Rattle.transaction_script.specs.Run.{State, state_of, line_end, after_line, after_octet, after_octets}

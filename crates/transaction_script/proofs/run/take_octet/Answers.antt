@@ -1,5 +1,4 @@
 -- Each way out has the test that `after_octet` makes.
-use borrow.Author.Rules.{rules}
 use borrow.Author.Tests.{eq-eqb, ne_eqb}
 use Rattle.transactions.specs.Table.{numbers_of}
 use Rattle.transaction_script.specs.Run.{after_octet}

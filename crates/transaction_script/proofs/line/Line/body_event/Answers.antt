@@ -1,6 +1,5 @@
 -- Each way out has the answer by which `body_event` goes.
 use mathlib.Core.Path.{sym, ◌∙◌}
-use borrow.Author.Rules.{rules}
 use borrow.Author.Tests.{eq-eqb, ne_eqb}
 use Rattle.transaction_script.proofs.line.Line.body_event.Goals as goal
 

@@ -1,6 +1,5 @@
 -- Each way out has the test that `hex_after` makes.
 use mathlib.Core.Path.{◌∙◌}
-use borrow.Author.Rules.{rules}
 use borrow.Author.Tests.{lt-ltb, le-ltb}
 use Rattle.transaction_script.specs.Line.{hex_after}
 use Rattle.transaction_script.proofs.line.Line.read_hex.Goals as goal
