@@ -1,6 +1,5 @@
 -- The measure is how much of the text is left.
 use Prim.Native.Nat.{◌≤◌}
-use borrow.Author.Rules.{rules}
 use lib.ListN.{length}
 use Rattle.vectors.proofs.run.Given as goal
 

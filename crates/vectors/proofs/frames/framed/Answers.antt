@@ -1,5 +1,4 @@
 -- The space holds the frame of a body, by `frame_bounds`.
-use borrow.Author.Rules.{rules}
 use native.Mathlib.Omega.{arith}
 use Rattle.frame.proofs.FrameBounds.{frame_bounds}
 use Rattle.vectors.proofs.frames.framed.Goals as goal

@@ -1,5 +1,4 @@
 -- Three octets of room hold a packed integer, by `packed_size`.
-use borrow.Author.Rules.{rules}
 use native.Mathlib.Omega.{arith}
 use Rattle.packed.proofs.ReadsBack.{packed_size}
 use Rattle.vectors.proofs.integers.put.Goals as goal

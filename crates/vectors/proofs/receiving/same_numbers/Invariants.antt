@@ -1,6 +1,5 @@
 -- The place is within both.
 use Prim.Native.Nat.{◌≤◌, ◌-◌}
-use borrow.Author.Rules.{rules}
 use Rattle.vectors.proofs.receiving.same_numbers.Given as goal
 
 abbrev pub invariant-loop-i : goal.invariant-loop-i

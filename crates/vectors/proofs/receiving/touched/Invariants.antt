@@ -1,9 +1,6 @@
 -- The invariant: start, end and place stand in this order, within the buffer.
 use Prim.Native.Nat.{◌≤◌, ◌-◌}
-use borrow.Author.Rules.{rules}
 use lib.ListN.{length}
-use mathlib.Core.Logic.{⊎_elim}
-use native.Mathlib.Omega.{arith}
 use Rattle.vectors.proofs.receiving.touched.Given as goal
 
 abbrev pub invariant-loop-i : goal.invariant-loop-i

@@ -1,7 +1,6 @@
 -- The invariant: the place is within the space, which keeps its length.
 use mathlib.Core.Path.{◌≡◌}
 use Prim.Native.Nat.{◌≤◌, ◌-◌}
-use borrow.Author.Rules.{rules}
 use lib.ListN.{length}
 use Rattle.vectors.proofs.text.fill.Given as goal
 

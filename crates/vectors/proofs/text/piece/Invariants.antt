@@ -1,6 +1,5 @@
 -- The invariant: the place is within the text.
 use Prim.Native.Nat.{◌≤◌}
-use borrow.Author.Rules.{rules}
 use lib.ListN.{length}
 use Rattle.vectors.proofs.text.piece.Given as goal
 

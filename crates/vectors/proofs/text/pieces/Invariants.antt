@@ -1,6 +1,5 @@
 -- The invariant: each piece but the last has a mark after it.
 use Prim.Native.Nat.{◌≤◌, ◌-◌, ◌+◌}
-use borrow.Author.Rules.{rules}
 use lib.ListN.{length}
 use Rattle.vectors.proofs.text.pieces.Given as goal
 

@@ -1,6 +1,5 @@
 -- The measure is how many words are left.
 use Prim.Native.Nat.{◌≤◌, ◌-◌}
-use borrow.Author.Rules.{rules}
 use Rattle.vectors.proofs.text.place.Given as goal
 
 abbrev pub invariant-loop-k : goal.invariant-loop-k

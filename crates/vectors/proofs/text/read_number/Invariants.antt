@@ -1,6 +1,5 @@
 -- The number fits by the test before each digit.
 use Prim.Native.Nat.{◌≤◌, ◌-◌}
-use borrow.Author.Rules.{rules}
 use lib.ListN.{length}
 use Rattle.vectors.proofs.text.read_number.Given as goal
 

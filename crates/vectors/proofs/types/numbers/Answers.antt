@@ -1,7 +1,4 @@
 -- The invariant: the place is within the list.
-use Prim.Native.Nat.{◌≤◌, ◌-◌}
-use borrow.Author.Rules.{rules}
-use lib.ListN.{length}
 use native.Mathlib.Omega.{arith}
 use Rattle.vectors.proofs.types.numbers.Goals as goal
 
