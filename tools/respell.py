@@ -13,7 +13,7 @@ import os
 import re
 
 # names that would meet another name of their file, and names that stand where no signature shows them
-SPECIAL = {"inArray": "of_array", "in-array": "in_array", "gave-up": "gave_up", "no-event": "no_event"}
+SPECIAL = {"inArray": "of_array", "in-array": "in_array", "to-box": "goes_to_box", "is-reset": "is_reset", "gave-up": "gave_up", "no-event": "no_event"}
 KEPT = {"goes_on"}
 SIGNATURE = re.compile(r"^( *)((?:(?:abbrev|unfoldable|pub|record|data)\s+)*)([^\s(){}.;,@:\"«»]+)(?: \([^()]*\)| \{[^{}]*\})*\s*:(?!=)", re.M)
 USE = re.compile(r"\buse ([^\s;{]+)(\{[^;]*?\}(?=;|[ \t]*$))?", re.M)

@@ -14,7 +14,7 @@ use Rattle.property.specs.declared.row.Found.{Found}
 use Rattle.property.specs.declared.row.Found.TheVariants.{At, Unknown}
 use Rattle.request.specs.declared.verdict.Verdict.{Verdict}
 use Rattle.request.specs.Verdict.{command_of, by_row, by_property, by_command, verdict}
-use Rattle.diagnosis.specs.Steps.{Names, Told, command_unreadable, command_unknown, is_noop, is_reset_lem, property_unreadable, property_unknown, not_allowed, passes}
+use Rattle.diagnosis.specs.Steps.{Names, Told, command_unreadable, command_unknown, is_noop, is_reset, property_unreadable, property_unknown, not_allowed, passes}
 
 by_row_lem : (b : List ℕ) (n at id start : ℕ) (f : Found) → Names b n at → packed_at b at ≡ Number id start → lookup id ≡ f
     → Told b (by_row (command_of n) start f)
@@ -32,7 +32,7 @@ unfolding by_command
 by_command_lem b (Unreadable f) e = command_unreadable e
 by_command_lem b (Number n at) e =
     chosen (Told b) (eqb n 0) (λ t. is_noop (e ∙ ap (λ m. Number m at) (eqb-true n 0 t)))
-    (λ t. chosen (Told b) (eqb n 1) (λ u. is_reset_lem (e ∙ ap (λ m. Number m at) (eqb-true n 1 u)))
+    (λ t. chosen (Told b) (eqb n 1) (λ u. is_reset (e ∙ ap (λ m. Number m at) (eqb-true n 1 u)))
     (λ u. chosen (Told b) (ltb 5 n) (λ w. command_unknown e (ltb-true 5 n w))
     (λ w. by_property_lem b n at (packed_at b at)
     (record { command = e; least = omega (arith, eqb-false n 0 t, eqb-false n 1 u); most = ltb-false 5 n w }) refl)))
@@ -55,7 +55,7 @@ told_only b w (command_unreadable e) = rw e
 told_only b w (command_unknown {n = n} e h) =
     rw (e, ne_eqb n 0 (λ z. absurd (omega arith)), ne_eqb n 1 (λ z. absurd (omega arith)), lt-ltb 5 n h)
 told_only b w (is_noop e) = rw e
-told_only b w (is_reset_lem e) = rw e
+told_only b w (is_reset e) = rw e
 told_only b w (property_unreadable names e) = rw (named b _ _ names, e)
 told_only b w (property_unknown names e f) = rw (named b _ _ names, e, f)
 told_only b w (not_allowed names e f a) = rw (named b _ _ names, e, f, a)

@@ -29,7 +29,7 @@ pub data Told (b : List ℕ) : Verdict → Type 0 where
   command_unknown : {n at : ℕ} → packed_at b 1 ≡ Number n at → 5 < n → Told b (Refuse 2 5 None)
   -- step 3, "NOOP (0) .. RESET (1) .. Both ignore any payload"
   is_noop : {at : ℕ} → packed_at b 1 ≡ Number 0 at → Told b Noop
-  is_reset_lem : {at : ℕ} → packed_at b 1 ≡ Number 1 at → Told b Reset
+  is_reset : {at : ℕ} → packed_at b 1 ≡ Number 1 at → Told b Reset
   -- step 4, "property number unreadable: 9; unknown: 13"
   property_unreadable : {n at : ℕ} {f : Fault} → Names b n at → packed_at b at ≡ Unreadable f → Told b (Refuse 4 9 (Integer f))
   property_unknown : {n at id start : ℕ} → Names b n at → packed_at b at ≡ Number id start → lookup id ≡ Unknown → Told b (Refuse 4 13 None)

@@ -84,7 +84,7 @@ answered d a (one_more before q) least e =
     (λ t. by_test (eqb (header_of q.body / 64) 2)
     (λ h. let to = eqb-true q.direction 0 t in
     let top = eqb-true (header_of q.body / 64) 2 h in
-    record { before = before; request = q; just_before = refl; to_box_lem = to; top = top; reply = sym e ∙ expected d before q to top })
+    record { before = before; request = q; just_before = refl; goes_to_box = to; top = top; reply = sym e ∙ expected d before q to top })
     (λ h. absurd (omega (arith, ap length (sym (dropped d before q t h) ∙ e)))))
     (λ t. absurd (omega (arith, ap length (sym (from_there d before q t) ∙ e))))
 
@@ -110,7 +110,7 @@ module _ (d : Device) (es : List Entry) (a : Entry) where
     pub yes_when : IsReply d es a → replayed d (es ++ (a ∷ [])) ≡ replayed d es ++ (true ∷ [])
     yes_when w =
         compared
-        (rw (w.just_before, expected d w.before w.request w.to_box_lem w.top, ← w.reply) (same_self a.body))
+        (rw (w.just_before, expected d w.before w.request w.goes_to_box w.top, ← w.reply) (same_self a.body))
 
     pub no_else : 2 ≤ length a.body → (IsReply d es a → ⊥) → replayed d (es ++ (a ∷ [])) ≡ replayed d es ++ (false ∷ [])
     no_else least other =

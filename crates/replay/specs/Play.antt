@@ -76,6 +76,6 @@ pub record IsReply (d : Device) (es : List Entry) (a : Entry) : Type 0 where
   pub before : List Entry
   pub request : Entry
   pub just_before : es ≡ before ++ (request ∷ [])
-  pub to_box_lem : request.direction ≡ 0
+  pub goes_to_box : request.direction ≡ 0
   pub top : header_of request.body / 64 ≡ 2
   pub reply : a.body ≡ (engine (device_after d (requests_in before)) request.body).reply
