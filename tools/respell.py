@@ -158,12 +158,14 @@ def main():
         if path.endswith(".rt"):
             text = clauses(old, turn)
         elif path.endswith(".edit"):
-            of = re.search(r"^file: (\S+)", old, re.M)
-            lines = old.split("\n")
-            code = of and of[1].startswith("src/")
-            text = "\n".join(
-                (clauses(l, turn) if code and not re.search("≡|⌜", l) else turn(l)) if re.match("(old|new): ", l) else l for l in lines
-            )
+            lines, code = [], False
+            for line in old.split("\n"):
+                if line.startswith("file: "):
+                    code = line.startswith("file: src/")
+                elif re.match("(old|new): ", line):
+                    line = clauses(line, turn) if code and not re.search("≡|≤|⌜", line) else turn(line)
+                lines.append(line)
+            text = "\n".join(lines)
         else:
             text = turn(old)
         if path.startswith("crates/ncp/src/"):
