@@ -5,6 +5,7 @@ use Prim.Native.Nat.{◌/◌}
 use native.Mathlib.Omega.{arith}
 use borrow.Author.Tests.{eq-eqb, ne_eqb, lt-ltb, le-ltb}
 use lib.Dec.{eqb}
+use lib.ListN.{length}
 use lib.Seq.{length-take-le}
 use Rattle.octets.specs.Body.{header_of}
 use Rattle.frame.specs.Fcs.{fcs}
@@ -16,7 +17,7 @@ use Rattle.hdlc.proofs.reader.frame_fate.Goals as goal
 pub returns-then-count-lt4 : goal.returns-then-count-lt4
 unfolding frame_fate
 returns-then-count-lt4 c =
-    rw (lt-ltb _ _ c.if-count-lt4.true)
+    rw (lt-ltb (length c.args.gathered.now) 4 (omega (arith, c.if-count-lt4.true)))
 
 pub slice_bounds-fcs16-end : goal.slice_bounds-fcs16-end
 slice_bounds-fcs16-end c =

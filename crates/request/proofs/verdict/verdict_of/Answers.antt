@@ -1,4 +1,5 @@
 -- Each return is a branch of the definition.
+use native.Mathlib.Omega.{arith}
 use borrow.Author.Tests.{eq-eqb, ne_eqb, lt-ltb, le-ltb}
 use Rattle.request.specs.Verdict.{by_command, verdict}
 use Rattle.request.proofs.verdict.verdict_of.Goals as goal
@@ -17,7 +18,7 @@ pub returns-then-command-gt-VALUE_REMOVE : goal.returns-then-command-gt-VALUE_RE
 unfolding verdict by_command
 returns-then-command-gt-VALUE_REMOVE c =
     rw (← c.read_packed.ensures, c.in-Number.is, ne_eqb _ _ c.if-command-eq-NOOP.false)
-    (rw (ne_eqb _ _ c.if-command-eq-RESET.false, lt-ltb _ _ c.if-command-gt-VALUE_REMOVE.true))
+    (rw (ne_eqb _ _ c.if-command-eq-RESET.false, lt-ltb 5 c.in-Number.command (omega (arith, c.if-command-gt-VALUE_REMOVE.true))))
 
 pub returns-in-Unreadable : goal.returns-in-Unreadable
 unfolding verdict by_command

@@ -4,10 +4,10 @@ use mathlib.Core.Path.{◌≡◌, sym, ◌∙◌}
 use native.Mathlib.Omega.{arith}
 use borrow.Author.Rules.{rules}
 use borrow.Author.Tests.{lt-ltb, le-ltb}
-use lib.ListN.{take}
+use lib.ListN.{length, take}
 use lib.Seq.{length-take-le}
 use Rattle.frame.proofs.FrameBounds.{frame_bounds}
-use Rattle.serial.specs.Receiving.{result_of, breaks_rules, receive, framed}
+use Rattle.serial.specs.Receiving.{min_output, result_of, breaks_rules, receive, framed}
 use Rattle.serial.proofs.LawsReceiving.{rules_kept, unrefused_framed, Fits, unrefused_fits, framed_none, framed_some}
 use Rattle.serial.proofs.receiving.receive.Goals as goal
 
@@ -27,7 +27,7 @@ returns-then-output-lt-MIN_OUTPUT c =
     rw (
       sym c.breaks_rules.ensures ∙ c.if-breaks_rules.false,
       le-ltb _ _ c.if-assembly-lt-MAX_GATHERED.false,
-      lt-ltb _ _ c.if-output-lt-MIN_OUTPUT.true,
+      lt-ltb (length c.args.output.now) min_output (omega (arith, c.if-output-lt-MIN_OUTPUT.true)),
       c.without_reply-then-output-lt-MIN_OUTPUT.ensures,
     )
 
