@@ -8,6 +8,11 @@ use lib.ListN.{get_or}
 use Rattle.packed.specs.Packed.{packed_at, joined, number_in}
 use Rattle.packed.proofs.LawsPacked.{number_none, number_last, number_more, joined_joined, scale_room}
 use Rattle.packed.proofs.read_packed.Goals as goal
+use Rattle.packed.proofs.read_packed.Goals.{After-shared_slice_known-in-loop-left-1}
+
+room : (c : After-shared_slice_known-in-loop-left-1) → (x : ℕ) → x < 128 → let w = c.loop-left in (w.n + w.scale * x < w.scale * 128) × (w.scale * 128 ≤ 2097152)
+room c =
+    λ x. let w = c.loop-left in scale_room w.left w.scale w.n x c.loop-left-test.true w.invariant.2 w.invariant.3
 
 pub returns-then-octets-at : goal.returns-then-octets-at
 unfolding packed_at
@@ -54,11 +59,11 @@ returns-then-octet-eq0 c =
 
 pub overflow_mul-result : goal.overflow_mul-result
 overflow_mul-result c =
-    omega (arith, (let h : (x : ℕ) → x < 128 → let w = c.loop-left in (w.n + w.scale * x < w.scale * 128) × (w.scale * 128 ≤ 2097152) = λ x. let w = c.loop-left in scale_room w.left w.scale w.n x c.loop-left-test.true w.invariant.2 w.invariant.3 in h) _ c.if-octet-lt128.true)
+    omega (arith, (room (goal.at.overflow_mul-result c).After-shared_slice_known-in-loop-left-1) _ c.if-octet-lt128.true)
 
 pub overflow_add-result : goal.overflow_add-result
 overflow_add-result c =
-    omega (arith, (let h : (x : ℕ) → x < 128 → let w = c.loop-left in (w.n + w.scale * x < w.scale * 128) × (w.scale * 128 ≤ 2097152) = λ x. let w = c.loop-left in scale_room w.left w.scale w.n x c.loop-left-test.true w.invariant.2 w.invariant.3 in h) _ c.if-octet-lt128.true)
+    omega (arith, (room (goal.at.overflow_add-result c).After-shared_slice_known-in-loop-left-1) _ c.if-octet-lt128.true)
 
 pub returns-then-octet-lt128 : goal.returns-then-octet-lt128
 unfolding joined
@@ -69,15 +74,15 @@ returns-then-octet-lt128 c =
 
 pub overflow_mul-n : goal.overflow_mul-n
 overflow_mul-n c =
-    omega (arith, (let h : (x : ℕ) → x < 128 → let w = c.loop-left in (w.n + w.scale * x < w.scale * 128) × (w.scale * 128 ≤ 2097152) = λ x. let w = c.loop-left in scale_room w.left w.scale w.n x c.loop-left-test.true w.invariant.2 w.invariant.3 in h) _ ((let h : get_or c.args.octets.now c.loop-left.next 0 - 128 < 128 = omega (arith, c.type_inv.octets c.loop-left.next) in h)))
+    omega (arith, (room (goal.at.overflow_mul-n c).After-shared_slice_known-in-loop-left-1) _ (let h : get_or c.args.octets.now c.loop-left.next 0 - 128 < 128 = omega (arith, c.type_inv.octets c.loop-left.next) in h))
 
 pub overflow_add-n : goal.overflow_add-n
 overflow_add-n c =
-    omega (arith, (let h : (x : ℕ) → x < 128 → let w = c.loop-left in (w.n + w.scale * x < w.scale * 128) × (w.scale * 128 ≤ 2097152) = λ x. let w = c.loop-left in scale_room w.left w.scale w.n x c.loop-left-test.true w.invariant.2 w.invariant.3 in h) _ ((let h : get_or c.args.octets.now c.loop-left.next 0 - 128 < 128 = omega (arith, c.type_inv.octets c.loop-left.next) in h)))
+    omega (arith, (room (goal.at.overflow_add-n c).After-shared_slice_known-in-loop-left-1) _ (let h : get_or c.args.octets.now c.loop-left.next 0 - 128 < 128 = omega (arith, c.type_inv.octets c.loop-left.next) in h))
 
 pub overflow_mul-scale : goal.overflow_mul-scale
 overflow_mul-scale c =
-    omega (arith, (let h : (x : ℕ) → x < 128 → let w = c.loop-left in (w.n + w.scale * x < w.scale * 128) × (w.scale * 128 ≤ 2097152) = λ x. let w = c.loop-left in scale_room w.left w.scale w.n x c.loop-left-test.true w.invariant.2 w.invariant.3 in h) _ ((let h : get_or c.args.octets.now c.loop-left.next 0 - 128 < 128 = omega (arith, c.type_inv.octets c.loop-left.next) in h)))
+    omega (arith, (room (goal.at.overflow_mul-scale c).After-shared_slice_known-in-loop-left-1) _ (let h : get_or c.args.octets.now c.loop-left.next 0 - 128 < 128 = omega (arith, c.type_inv.octets c.loop-left.next) in h))
 
 pub loop-left-preserved : goal.loop-left-preserved
 loop-left-preserved c =
@@ -87,7 +92,7 @@ loop-left-preserved c =
       rw (number_more s w.next w.left (omega arith) (omega arith) (omega arith), joined_joined) at w.invariant.0,
       omega arith,
       rw (up, pow-succ' 128 (3 - w.left)) (omega arith),
-      ((let h : (x : ℕ) → x < 128 → let w = c.loop-left in (w.n + w.scale * x < w.scale * 128) × (w.scale * 128 ≤ 2097152) = λ x. let w = c.loop-left in scale_room w.left w.scale w.n x c.loop-left-test.true w.invariant.2 w.invariant.3 in h) _ ((let h : get_or c.args.octets.now c.loop-left.next 0 - 128 < 128 = omega (arith, c.type_inv.octets c.loop-left.next) in h))).0,
+      ((room (goal.at.loop-left-preserved c).After-shared_slice_known-in-loop-left-1) _ (let h : get_or c.args.octets.now c.loop-left.next 0 - 128 < 128 = omega (arith, c.type_inv.octets c.loop-left.next) in h)).0,
     )
 
 pub returns : goal.returns

@@ -7,6 +7,27 @@ use Rattle.octets.specs.LittleEndian.{le_at}
 use Rattle.capture.specs.Records.{is_in_range}
 use Rattle.capture.proofs.Answers.{past_end, at_end_lem, under_five, bad_mark, out_of_range, body_cut, whole}
 use Rattle.capture.proofs.reading.read_record.Goals as goal
+use Rattle.capture.proofs.reading.read_record.Goals.{After-is_in_range}
+
+head : (c : After-is_in_range) → c.args.at + 5 ≤ length c.args.log.now
+head c =
+    omega arith
+
+first : (c : After-is_in_range) → get_or c.args.log.now c.args.at 0 ≡ 0x53
+first c =
+    c.if-log-at-2.false
+
+second : (c : After-is_in_range) → get_or c.args.log.now (c.args.at + 1) 0 ≡ 0x50
+second c =
+    c.if-log-at-3.false
+
+len : (c : After-is_in_range) → c.read_le-len.result ≡ le_at c.args.log.now (c.args.at + 3) 2
+len c =
+    c.read_le-len.ensures
+
+range : (c : After-is_in_range) → is_in_range (get_or c.args.log.now (c.args.at + 2) 0) (le_at c.args.log.now (c.args.at + 3) 2) ≡ c.is_in_range.result
+range c =
+    ap (is_in_range (get_or c.args.log.now (c.args.at + 2) 0)) (sym (len c)) ∙ sym c.is_in_range.ensures
 
 pub returns-then-log-at : goal.returns-then-log-at
 returns-then-log-at c =
@@ -30,12 +51,15 @@ returns-then-log-at-3 c =
 
 pub returns-then-left-len : goal.returns-then-left-len
 returns-then-left-len c =
-    sym (body_cut _ _ ((let h : c.args.at + 5 ≤ length c.args.log.now = omega arith in h)) ((let h : get_or c.args.log.now c.args.at 0 ≡ 0x53 = c.if-log-at-2.false in h)) ((let h : get_or c.args.log.now (c.args.at + 1) 0 ≡ 0x50 = c.if-log-at-3.false in h)) ((let h : is_in_range (get_or c.args.log.now (c.args.at + 2) 0) (le_at c.args.log.now (c.args.at + 3) 2) ≡ c.is_in_range.result = ap (is_in_range (get_or c.args.log.now (c.args.at + 2) 0)) (sym (let h : c.read_le-len.result ≡ le_at c.args.log.now (c.args.at + 3) 2 = c.read_le-len.ensures in h)) ∙ sym c.is_in_range.ensures in h) ∙ c.if-is_in_range.true) (omega (arith, (let h : c.read_le-len.result ≡ le_at c.args.log.now (c.args.at + 3) 2 = c.read_le-len.ensures in h))))
+    let k = (goal.at.returns-then-left-len c).After-is_in_range in
+    sym (body_cut _ _ (head k) (first k) (second k) (range k ∙ c.if-is_in_range.true) (omega (arith, len k)))
 
 pub returns-then-is_in_range : goal.returns-then-is_in_range
 returns-then-is_in_range c =
-    rw ((let h : c.read_le-len.result ≡ le_at c.args.log.now (c.args.at + 3) 2 = c.read_le-len.ensures in h)) (sym (whole _ _ ((let h : c.args.at + 5 ≤ length c.args.log.now = omega arith in h)) ((let h : get_or c.args.log.now c.args.at 0 ≡ 0x53 = c.if-log-at-2.false in h)) ((let h : get_or c.args.log.now (c.args.at + 1) 0 ≡ 0x50 = c.if-log-at-3.false in h)) ((let h : is_in_range (get_or c.args.log.now (c.args.at + 2) 0) (le_at c.args.log.now (c.args.at + 3) 2) ≡ c.is_in_range.result = ap (is_in_range (get_or c.args.log.now (c.args.at + 2) 0)) (sym (let h : c.read_le-len.result ≡ le_at c.args.log.now (c.args.at + 3) 2 = c.read_le-len.ensures in h)) ∙ sym c.is_in_range.ensures in h) ∙ c.if-is_in_range.true) (omega (arith, (let h : c.read_le-len.result ≡ le_at c.args.log.now (c.args.at + 3) 2 = c.read_le-len.ensures in h)))))
+    let k = (goal.at.returns-then-is_in_range c).After-is_in_range in
+    rw (len k) (sym (whole _ _ (head k) (first k) (second k) (range k ∙ c.if-is_in_range.true) (omega (arith, len k))))
 
 pub returns : goal.returns
 returns c =
-    sym (out_of_range _ _ ((let h : c.args.at + 5 ≤ length c.args.log.now = omega arith in h)) ((let h : get_or c.args.log.now c.args.at 0 ≡ 0x53 = c.if-log-at-2.false in h)) ((let h : get_or c.args.log.now (c.args.at + 1) 0 ≡ 0x50 = c.if-log-at-3.false in h)) ((let h : is_in_range (get_or c.args.log.now (c.args.at + 2) 0) (le_at c.args.log.now (c.args.at + 3) 2) ≡ c.is_in_range.result = ap (is_in_range (get_or c.args.log.now (c.args.at + 2) 0)) (sym (let h : c.read_le-len.result ≡ le_at c.args.log.now (c.args.at + 3) 2 = c.read_le-len.ensures in h)) ∙ sym c.is_in_range.ensures in h) ∙ c.if-is_in_range.false))
+    let k = (goal.at.returns c).After-is_in_range in
+    sym (out_of_range _ _ (head k) (first k) (second k) (range k ∙ c.if-is_in_range.false))

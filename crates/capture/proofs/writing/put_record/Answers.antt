@@ -7,31 +7,40 @@ use Rattle.octets.proofs.LawsWriting.{wrote_both}
 use Rattle.capture.specs.Records.{entry, record_of, head_size, Good}
 use Rattle.capture.proofs.LawsRecords.{record_length, range_good}
 use Rattle.capture.proofs.writing.put_record.Goals as goal
+use Rattle.capture.proofs.writing.put_record.Goals.{Start}
+
+room : (c : Start) → c.args.at + (head_size + length c.args.body.now) ≤ length c.args.space.now
+room c =
+    rw (record_length (entry c.args.direction c.args.body.now)) at c.requires.room
+
+good : (c : Start) → Good (entry c.args.direction c.args.body.now)
+good c =
+    range_good c.args.direction c.args.body.now c.requires.range
 
 pub write_octets-at_direction-requires : goal.write_octets-at_direction-requires
 unfolding record_of
 write_octets-at_direction-requires c =
-    omega (arith, (let h : c.args.at + (head_size + length c.args.body.now) ≤ length c.args.space.now = rw (record_length (entry c.args.direction c.args.body.now)) at c.requires.room in h))
+    omega (arith, (room (goal.at.write_octets-at_direction-requires c).Start))
 
 pub write_octet-at_len-requires : goal.write_octet-at_len-requires
 unfolding record_of
 write_octet-at_len-requires c =
-    omega (arith, (let h : c.args.at + (head_size + length c.args.body.now) ≤ length c.args.space.now = rw (record_length (entry c.args.direction c.args.body.now)) at c.requires.room in h))
+    omega (arith, (room (goal.at.write_octet-at_len-requires c).Start))
 
 pub overflow_cast-body : goal.overflow_cast-body
 unfolding record_of
 overflow_cast-body c =
-    omega (arith, ((let h : Good (entry c.args.direction c.args.body.now) = range_good c.args.direction c.args.body.now c.requires.range in h)).most)
+    omega (arith, (good (goal.at.overflow_cast-body c).Start).most)
 
 pub write_le-at_body-requires : goal.write_le-at_body-requires
 unfolding record_of
 write_le-at_body-requires c =
-    omega (arith, (let h : c.args.at + (head_size + length c.args.body.now) ≤ length c.args.space.now = rw (record_length (entry c.args.direction c.args.body.now)) at c.requires.room in h))
+    omega (arith, (room (goal.at.write_le-at_body-requires c).Start))
 
 pub write_octets-requires : goal.write_octets-requires
 unfolding record_of
 write_octets-requires c =
-    omega (arith, (let h : c.args.at + (head_size + length c.args.body.now) ≤ length c.args.space.now = rw (record_length (entry c.args.direction c.args.body.now)) at c.requires.room in h), length_le 2 (length c.args.body.now))
+    omega (arith, (room (goal.at.write_octets-requires c).Start), length_le 2 (length c.args.body.now))
 
 pub returns : goal.returns
 unfolding record_of

@@ -6,27 +6,32 @@ use mathlib.Core.Bool.{true}
 use Rattle.device.specs.Rules.{sized, is_fresh}
 use Rattle.device.proofs.LawsRules.{sized_by}
 use Rattle.device.proofs.rules.is_fresh.Goals as goal
+use Rattle.device.proofs.rules.is_fresh.Goals.{After-struct_known-1}
+
+sizes : (c : After-struct_known-1) → sized c.args.link ≡ true
+sizes c =
+    sized_by _ (search rules) (search rules) (search rules)
 
 pub returns-then-link-ne-RESET_SOFTWARE : goal.returns-then-link-ne-RESET_SOFTWARE
 unfolding is_fresh
 returns-then-link-ne-RESET_SOFTWARE c =
-    rw ((let h : sized c.args.link ≡ true = sized_by _ (search rules) (search rules) (search rules) in h), ne_eqb _ _ c.if-link-ne-RESET_SOFTWARE.true)
+    rw ((sizes (goal.at.returns-then-link-ne-RESET_SOFTWARE c).After-struct_known-1), ne_eqb _ _ c.if-link-ne-RESET_SOFTWARE.true)
 
 pub returns-then-name-ne0 : goal.returns-then-name-ne0
 unfolding is_fresh
 returns-then-name-ne0 c =
-    rw ((let h : sized c.args.link ≡ true = sized_by _ (search rules) (search rules) (search rules) in h), eq-eqb _ _ c.if-link-ne-RESET_SOFTWARE.false, ne_eqb _ _ c.if-name-ne0.true)
+    rw ((sizes (goal.at.returns-then-name-ne0 c).After-struct_known-1), eq-eqb _ _ c.if-link-ne-RESET_SOFTWARE.false, ne_eqb _ _ c.if-name-ne0.true)
 
 pub returns-then-ports-ne0 : goal.returns-then-ports-ne0
 unfolding is_fresh
 returns-then-ports-ne0 c =
-    rw ((let h : sized c.args.link ≡ true = sized_by _ (search rules) (search rules) (search rules) in h), eq-eqb _ _ c.if-link-ne-RESET_SOFTWARE.false, eq-eqb _ _ c.if-name-ne0.false, ne_eqb _ _ c.if-ports-ne0.true)
+    rw ((sizes (goal.at.returns-then-ports-ne0 c).After-struct_known-1), eq-eqb _ _ c.if-link-ne-RESET_SOFTWARE.false, eq-eqb _ _ c.if-name-ne0.false, ne_eqb _ _ c.if-ports-ne0.true)
 
 pub returns-then-is_zero_from : goal.returns-then-is_zero_from
 unfolding is_fresh
 returns-then-is_zero_from c =
     rw (
-      (let h : sized c.args.link ≡ true = sized_by _ (search rules) (search rules) (search rules) in h),
+      (sizes (goal.at.returns-then-is_zero_from c).After-struct_known-1),
       eq-eqb _ _ c.if-link-ne-RESET_SOFTWARE.false,
       eq-eqb _ _ c.if-name-ne0.false,
       eq-eqb _ _ c.if-ports-ne0.false,
@@ -39,7 +44,7 @@ pub returns-else-is_zero_from : goal.returns-else-is_zero_from
 unfolding is_fresh
 returns-else-is_zero_from c =
     rw (
-      (let h : sized c.args.link ≡ true = sized_by _ (search rules) (search rules) (search rules) in h),
+      (sizes (goal.at.returns-else-is_zero_from c).After-struct_known-1),
       eq-eqb _ _ c.if-link-ne-RESET_SOFTWARE.false,
       eq-eqb _ _ c.if-name-ne0.false,
       eq-eqb _ _ c.if-ports-ne0.false,
@@ -51,7 +56,7 @@ pub returns-else-are_defaults : goal.returns-else-are_defaults
 unfolding is_fresh
 returns-else-are_defaults c =
     rw (
-      (let h : sized c.args.link ≡ true = sized_by _ (search rules) (search rules) (search rules) in h),
+      (sizes (goal.at.returns-else-are_defaults c).After-struct_known-1),
       eq-eqb _ _ c.if-link-ne-RESET_SOFTWARE.false,
       eq-eqb _ _ c.if-name-ne0.false,
       eq-eqb _ _ c.if-ports-ne0.false,

@@ -7,6 +7,11 @@ use Rattle.octets.proofs.LawsRanges.{below, above}
 use Rattle.diagnosis.specs.Classes.{max_head}
 use Rattle.diagnosis.proofs.LawsClasses.{bad_links, over_long, under_two, by_head}
 use Rattle.diagnosis.proofs.classes.classify.Goals as goal
+use Rattle.diagnosis.proofs.classes.classify.Goals.{Else-body-lt-MAX_HEAD}
+
+seven : (c : Else-body-lt-MAX_HEAD) → let b = c.args.body.now in length (take max_head b) ≡ max_head
+seven c =
+    length-take-le max_head c.args.body.now c.if-body-lt-MAX_HEAD.false
 
 pub returns-then-links-lt1 : goal.returns-then-links-lt1
 returns-then-links-lt1 c =
@@ -26,16 +31,16 @@ returns-then-body-lt-MIN_OCTETS c =
 
 pub returns-then-body-lt-MAX_HEAD : goal.returns-then-body-lt-MAX_HEAD
 returns-then-body-lt-MAX_HEAD c =
-    rw (by_head _ _ c.if-links-lt1.false c.if-links-gt-MAX_LINKS.false (c.if-body-lt-MIN_OCTETS.false, c.if-body-gt-MAX_OCTETS.false), take_all max_head (c.args.body.now) (omega arith))
+    rw (by_head _ _ c.if-links-lt1.false c.if-links-gt-MAX_LINKS.false (c.if-body-lt-MIN_OCTETS.false, c.if-body-gt-MAX_OCTETS.false), take_all max_head c.args.body.now (omega arith))
     c.head_class.ensures
 
 pub slice_bounds-head_class-end : goal.slice_bounds-head_class-end
 slice_bounds-head_class-end c =
-    sym ((let h : let b = c.args.body.now in length (take max_head b) ≡ max_head = length-take-le max_head (c.args.body.now) c.if-body-lt-MAX_HEAD.false in h))
+    sym (seven (goal.at.slice_bounds-head_class-end c).Else-body-lt-MAX_HEAD)
 
 pub head_class-requires-2 : goal.head_class-requires-2
 head_class-requires-2 c =
-    rw ((let h : let b = c.args.body.now in length (take max_head b) ≡ max_head = length-take-le max_head (c.args.body.now) c.if-body-lt-MAX_HEAD.false in h)) (omega arith)
+    rw (seven (goal.at.head_class-requires-2 c).Else-body-lt-MAX_HEAD) (omega arith)
 
 pub returns : goal.returns
 returns c =

@@ -7,16 +7,22 @@ use lib.Seq.{length-take-le}
 use Rattle.ncp.specs.Serve.{next}
 use Rattle.ncp.proofs.LawsTurns.{took_room}
 use Rattle.ncp.proofs.serve.serve_call.Goals as goal
+use Rattle.ncp.proofs.serve.serve_call.Goals.{After-receive_line-turn}
+
+room : (c : After-receive_line-turn) → c.receive_line-turn.result.len ≤ length c.receive_line-turn.new.line
+room c =
+    let s = c.args in
+    took_room s.session.device s.session.reader s.input.now s.assembly.now c.receive_line-turn.ensures (omega arith)
 
 pub slice_bounds-line-end : goal.slice_bounds-line-end
 unfolding next
 slice_bounds-line-end c =
-    (let h : c.receive_line-turn.result.len ≤ length c.receive_line-turn.new.line = let s = c.args in took_room s.session.device s.session.reader s.input.now s.assembly.now c.receive_line-turn.ensures (omega arith) in h)
+    (room (goal.at.slice_bounds-line-end c).After-receive_line-turn)
 
 pub slice_bounds-write_all-end : goal.slice_bounds-write_all-end
 unfolding next
 slice_bounds-write_all-end c =
-    sym (length-take-le _ _ ((let h : c.receive_line-turn.result.len ≤ length c.receive_line-turn.new.line = let s = c.args in took_room s.session.device s.session.reader s.input.now s.assembly.now c.receive_line-turn.ensures (omega arith) in h)))
+    sym (length-take-le _ _ (room (goal.at.slice_bounds-write_all-end c).After-receive_line-turn))
 
 pub returns : goal.returns
 unfolding next

@@ -5,20 +5,26 @@ use lib.Seq.{length-take-le}
 use Rattle.serial.specs.Receiving.{result_of}
 use Rattle.ncp.proofs.LawsTurns.{Turned, turned}
 use Rattle.ncp.proofs.turn.receive_line.Goals as goal
+use Rattle.ncp.proofs.turn.receive_line.Goals.{After-receive_body-received}
+
+facts : (c : After-receive_body-received) → Turned c.args.device (result_of c.receive_body-received.result c.receive_body-received.new.assembly c.receive_body-received.new.space)
+facts c =
+    let s = c.args in
+    rw c.receive_body-received.ensures (turned s.device s.reader s.input.now s.assembly.now _)
 
 pub slice_bounds-reply-end : goal.slice_bounds-reply-end
 slice_bounds-reply-end c =
-    ((let h : Turned c.args.device (result_of c.receive_body-received.result c.receive_body-received.new.assembly c.receive_body-received.new.space) = let s = c.args in rw c.receive_body-received.ensures (turned s.device s.reader s.input.now s.assembly.now _) in h)).room
+    (facts (goal.at.slice_bounds-reply-end c).After-receive_body-received).room
 
 pub slice_bounds-write_line-end : goal.slice_bounds-write_line-end
 slice_bounds-write_line-end c =
-    sym (length-take-le _ _ ((let h : Turned c.args.device (result_of c.receive_body-received.result c.receive_body-received.new.assembly c.receive_body-received.new.space) = let s = c.args in rw c.receive_body-received.ensures (turned s.device s.reader s.input.now s.assembly.now _) in h)).room)
+    sym (length-take-le _ _ (facts (goal.at.slice_bounds-write_line-end c).After-receive_body-received).room)
 
 pub write_line-requires : goal.write_line-requires
 write_line-requires c =
-    let f = (let h : Turned c.args.device (result_of c.receive_body-received.result c.receive_body-received.new.assembly c.receive_body-received.new.space) = let s = c.args in rw c.receive_body-received.ensures (turned s.device s.reader s.input.now s.assembly.now _) in h) in rw f.reply (omega (arith, f.short))
+    let f = (facts (goal.at.write_line-requires c).After-receive_body-received) in rw f.reply (omega (arith, f.short))
 
 pub returns : goal.returns
 returns c =
     rw (← c.receive_body-received.ensures)
-    (record { read = refl; device = refl; reader = refl; assembly = refl; line = rw ((let h : Turned c.args.device (result_of c.receive_body-received.result c.receive_body-received.new.assembly c.receive_body-received.new.space) = let s = c.args in rw c.receive_body-received.ensures (turned s.device s.reader s.input.now s.assembly.now _) in h)).reply at c.write_line.ensures })
+    (record { read = refl; device = refl; reader = refl; assembly = refl; line = rw (facts (goal.at.returns c).After-receive_body-received).reply at c.write_line.ensures })

@@ -10,6 +10,21 @@ use Rattle.frame.proofs.FrameBounds.{frame_bounds}
 use Rattle.serial.specs.Receiving.{min_output, result_of, breaks_rules, receive, framed}
 use Rattle.serial.proofs.LawsReceiving.{rules_kept, unrefused_framed, Fits, unrefused_fits, framed_none, framed_some}
 use Rattle.serial.proofs.receiving.receive.Goals as goal
+use Rattle.serial.proofs.receiving.receive.Goals.{After-read_and_answer-received}
+
+kept : (c : After-read_and_answer-received) → breaks_rules c.args.device c.args.reader ≡ false
+kept c =
+    sym c.breaks_rules.ensures ∙ c.if-breaks_rules.false
+
+fits : (c : After-read_and_answer-received) → Fits (result_of c.read_and_answer-received.result c.read_and_answer-received.new.assembly c.read_and_answer-received.new.space)
+fits c =
+    rw c.read_and_answer-received.ensures (unrefused_fits _ _ _ (rules_kept _ _ (kept c)).0)
+
+rest : (c : After-read_and_answer-received) → let call = c.read_and_answer-received in receive c.args.device c.args.reader c.args.input.now c.args.assembly.now c.args.output.now ≡ framed (result_of call.result call.new.assembly c.read_and_answer-received.new.space) c.args.output.now
+unfolding receive
+rest c =
+    rw ((kept c), le-ltb _ _ c.if-assembly-lt-MAX_GATHERED.false, le-ltb _ _ c.if-output-lt-MIN_OUTPUT.false, c.read_and_answer-received.ensures)
+    (unrefused_framed _ _ _ _ (rules_kept _ _ (kept c)).0)
 
 pub returns-then-breaks_rules : goal.returns-then-breaks_rules
 unfolding receive
@@ -39,28 +54,28 @@ read_and_answer-received-requires c =
 pub slice_bounds-reply-end : goal.slice_bounds-reply-end
 unfolding receive
 slice_bounds-reply-end c =
-    ((let h : Fits (result_of c.read_and_answer-received.result c.read_and_answer-received.new.assembly c.read_and_answer-received.new.space) = rw c.read_and_answer-received.ensures (unrefused_fits _ _ _ (rules_kept _ _ (let h : breaks_rules c.args.device c.args.reader ≡ false = sym c.breaks_rules.ensures ∙ c.if-breaks_rules.false in h)).0) in h)).within
+    (fits (goal.at.slice_bounds-reply-end c).After-read_and_answer-received).within
 
 pub slice_bounds-write_frame-end : goal.slice_bounds-write_frame-end
 unfolding receive
 slice_bounds-write_frame-end c =
-    sym (length-take-le _ _ ((let h : Fits (result_of c.read_and_answer-received.result c.read_and_answer-received.new.assembly c.read_and_answer-received.new.space) = rw c.read_and_answer-received.ensures (unrefused_fits _ _ _ (rules_kept _ _ (let h : breaks_rules c.args.device c.args.reader ≡ false = sym c.breaks_rules.ensures ∙ c.if-breaks_rules.false in h)).0) in h)).within)
+    sym (length-take-le _ _ (fits (goal.at.slice_bounds-write_frame-end c).After-read_and_answer-received).within)
 
 pub write_frame-requires : goal.write_frame-requires
 unfolding receive
 write_frame-requires c =
-    let f = (let h : Fits (result_of c.read_and_answer-received.result c.read_and_answer-received.new.assembly c.read_and_answer-received.new.space) = rw c.read_and_answer-received.ensures (unrefused_fits _ _ _ (rules_kept _ _ (let h : breaks_rules c.args.device c.args.reader ≡ false = sym c.breaks_rules.ensures ∙ c.if-breaks_rules.false in h)).0) in h) in let size = length-take-le (c.read_and_answer-received.result.written) (c.read_and_answer-received.new.space) f.within in
+    let f = (fits (goal.at.write_frame-requires c).After-read_and_answer-received) in let size = length-take-le c.read_and_answer-received.result.written c.read_and_answer-received.new.space f.within in
     let some = f.least c.if-len-gt0.true in
-    ((omega arith, omega arith), omega (arith, frame_bounds (take (c.read_and_answer-received.result.written) (c.read_and_answer-received.new.space)), c.if-output-lt-MIN_OUTPUT))
+    ((omega arith, omega arith), omega (arith, frame_bounds (take c.read_and_answer-received.result.written c.read_and_answer-received.new.space), c.if-output-lt-MIN_OUTPUT))
 
 pub returns-then-len-gt0 : goal.returns-then-len-gt0
 unfolding receive
 returns-then-len-gt0 c =
     sym
-    ((let h : let call = c.read_and_answer-received in receive c.args.device c.args.reader c.args.input.now c.args.assembly.now c.args.output.now ≡ framed (result_of call.result call.new.assembly c.read_and_answer-received.new.space) c.args.output.now = rw ((let h : breaks_rules c.args.device c.args.reader ≡ false = sym c.breaks_rules.ensures ∙ c.if-breaks_rules.false in h), le-ltb _ _ c.if-assembly-lt-MAX_GATHERED.false, le-ltb _ _ c.if-output-lt-MIN_OUTPUT.false, c.read_and_answer-received.ensures) (unrefused_framed _ _ _ _ (rules_kept _ _ (let h : breaks_rules c.args.device c.args.reader ≡ false = sym c.breaks_rules.ensures ∙ c.if-breaks_rules.false in h)).0) in h)
-    ∙ framed_some c.read_and_answer-received.result _ (c.read_and_answer-received.new.space) _ c.if-len-gt0.true c.write_frame.ensures)
+    ((rest (goal.at.returns-then-len-gt0 c).After-read_and_answer-received)
+    ∙ framed_some c.read_and_answer-received.result _ c.read_and_answer-received.new.space _ c.if-len-gt0.true c.write_frame.ensures)
 
 pub returns-else-len-gt0 : goal.returns-else-len-gt0
 unfolding receive
 returns-else-len-gt0 c =
-    sym ((let h : let call = c.read_and_answer-received in receive c.args.device c.args.reader c.args.input.now c.args.assembly.now c.args.output.now ≡ framed (result_of call.result call.new.assembly c.read_and_answer-received.new.space) c.args.output.now = rw ((let h : breaks_rules c.args.device c.args.reader ≡ false = sym c.breaks_rules.ensures ∙ c.if-breaks_rules.false in h), le-ltb _ _ c.if-assembly-lt-MAX_GATHERED.false, le-ltb _ _ c.if-output-lt-MIN_OUTPUT.false, c.read_and_answer-received.ensures) (unrefused_framed _ _ _ _ (rules_kept _ _ (let h : breaks_rules c.args.device c.args.reader ≡ false = sym c.breaks_rules.ensures ∙ c.if-breaks_rules.false in h)).0) in h) ∙ framed_none c.read_and_answer-received.result _ (c.read_and_answer-received.new.space) _ (omega (arith, c.if-len-gt0.false)))
+    sym ((rest (goal.at.returns-else-len-gt0 c).After-read_and_answer-received) ∙ framed_none c.read_and_answer-received.result _ c.read_and_answer-received.new.space _ (omega (arith, c.if-len-gt0.false)))

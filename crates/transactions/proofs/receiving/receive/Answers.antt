@@ -14,6 +14,24 @@ use Rattle.transactions.specs.Receiving.{told, unrefused, breaks_rules, receive}
 use Rattle.transactions.proofs.LawsReceiving.{rules_kept, receive_11, receive_12, receive_run}
 use borrow.Enum.Refused.{opened}
 use Rattle.transactions.proofs.receiving.receive.Goals as goal
+use Rattle.transactions.proofs.receiving.receive.Goals.{After-read_frame-reading, In-Checked}
+
+reads : (c : In-Checked) → let r = c.read_frame-reading.result in outcome (Checked c.in-Checked.len) r.read r.reader c.read_frame-reading.new.assembly ≡ (run (assembling c.args.reader c.args.assembly.now) c.args.input.now)
+reads c =
+    let r = c.read_frame-reading.result in
+    ap (λ f. outcome f r.read r.reader c.read_frame-reading.new.assembly) (sym c.in-Checked.is) ∙ c.read_frame-reading.ensures
+
+found : (c : In-Checked) → SpinelBody (take c.in-Checked.len c.read_frame-reading.new.assembly) × (c.in-Checked.len ≤ length c.read_frame-reading.new.assembly)
+found c =
+    checked_count _ _ _ (rules_told _ (rules_kept _ _ (let h : breaks_rules (numbers_of c.args.table) c.args.reader ≡ false = sym c.breaks_rules.ensures ∙ c.if-breaks_rules.false in h)).1) c.if-assembly-lt-MAX_GATHERED.false (reads c)
+
+kept : (c : After-read_frame-reading) → breaks_rules (numbers_of c.args.table) c.args.reader ≡ false
+kept c =
+    sym c.breaks_rules.ensures ∙ c.if-breaks_rules.false
+
+rest : (c : After-read_frame-reading) → receive (numbers_of c.args.table) c.args.reader c.args.input.now c.args.assembly.now ≡ unrefused (numbers_of c.args.table) (run (assembling c.args.reader c.args.assembly.now) c.args.input.now)
+rest c =
+    receive_run (numbers_of c.args.table) c.args.reader c.args.input.now c.args.assembly.now (kept c) c.if-assembly-lt-MAX_GATHERED.false
 
 pub returns-then-breaks_rules : goal.returns-then-breaks_rules
 unfolding unrefused
@@ -33,24 +51,24 @@ read_frame-reading-requires c =
 pub slice_bounds-reply-end : goal.slice_bounds-reply-end
 unfolding unrefused
 slice_bounds-reply-end c =
-    ((let h : SpinelBody (take c.in-Checked.len (c.read_frame-reading.new.assembly)) × (c.in-Checked.len ≤ length (c.read_frame-reading.new.assembly)) = checked_count _ _ _ (rules_told _ (rules_kept _ _ ((let h : breaks_rules (numbers_of c.args.table) c.args.reader ≡ false = sym c.breaks_rules.ensures ∙ c.if-breaks_rules.false in h))).1) c.if-assembly-lt-MAX_GATHERED.false (let h : let r = c.read_frame-reading.result in outcome (Checked c.in-Checked.len) r.read r.reader (c.read_frame-reading.new.assembly) ≡ (run (assembling c.args.reader c.args.assembly.now) c.args.input.now) = let r = c.read_frame-reading.result in ap (λ f. outcome f r.read r.reader (c.read_frame-reading.new.assembly)) (sym c.in-Checked.is) ∙ c.read_frame-reading.ensures in h) in h)).1
+    (found (goal.at.slice_bounds-reply-end c).In-Checked).1
 
 pub slice_bounds-reply-end-in-Checked : goal.slice_bounds-reply-end-in-Checked
 unfolding unrefused
 slice_bounds-reply-end-in-Checked c =
-    sym (length-take-le _ _ ((let h : SpinelBody (take c.in-Checked.len (c.read_frame-reading.new.assembly)) × (c.in-Checked.len ≤ length (c.read_frame-reading.new.assembly)) = checked_count _ _ _ (rules_told _ (rules_kept _ _ ((let h : breaks_rules (numbers_of c.args.table) c.args.reader ≡ false = sym c.breaks_rules.ensures ∙ c.if-breaks_rules.false in h))).1) c.if-assembly-lt-MAX_GATHERED.false (let h : let r = c.read_frame-reading.result in outcome (Checked c.in-Checked.len) r.read r.reader (c.read_frame-reading.new.assembly) ≡ (run (assembling c.args.reader c.args.assembly.now) c.args.input.now) = let r = c.read_frame-reading.result in ap (λ f. outcome f r.read r.reader (c.read_frame-reading.new.assembly)) (sym c.in-Checked.is) ∙ c.read_frame-reading.ensures in h) in h)).1)
+    sym (length-take-le _ _ (found (goal.at.slice_bounds-reply-end-in-Checked c).In-Checked).1)
 
 pub returns-in-Checked : goal.returns-in-Checked
 unfolding unrefused
 returns-in-Checked c =
     let r = c.read_frame-reading.result in
-    ap (told (outcome (Checked (c.in-Checked.len)) r.read r.reader (c.read_frame-reading.new.assembly))) c.reply-step.ensures
-    ∙ ap (unrefused ((numbers_of c.args.table))) ((let h : let r = c.read_frame-reading.result in outcome (Checked c.in-Checked.len) r.read r.reader (c.read_frame-reading.new.assembly) ≡ (run (assembling c.args.reader c.args.assembly.now) c.args.input.now) = let r = c.read_frame-reading.result in ap (λ f. outcome f r.read r.reader (c.read_frame-reading.new.assembly)) (sym c.in-Checked.is) ∙ c.read_frame-reading.ensures in h))
-    ∙ sym ((let h : receive (numbers_of c.args.table) c.args.reader c.args.input.now c.args.assembly.now ≡ unrefused (numbers_of c.args.table) (run (assembling c.args.reader c.args.assembly.now) c.args.input.now) = receive_run (numbers_of c.args.table) c.args.reader c.args.input.now c.args.assembly.now (let h : breaks_rules (numbers_of c.args.table) c.args.reader ≡ false = sym c.breaks_rules.ensures ∙ c.if-breaks_rules.false in h) c.if-assembly-lt-MAX_GATHERED.false in h))
+    ap (told (outcome (Checked c.in-Checked.len) r.read r.reader c.read_frame-reading.new.assembly)) c.reply-step.ensures
+    ∙ ap (unrefused (numbers_of c.args.table)) (reads (goal.at.returns-in-Checked c).In-Checked)
+    ∙ sym (rest (goal.at.returns-in-Checked c).After-read_frame-reading)
 
 pub returns : goal.returns
 unfolding unrefused
 returns c =
     let read = c.read_frame-reading in
-    let t = tag_unchecked read.result.fate (c.read_frame-reading.new.assembly) (opened c.in_default.in_default-own.keys2) in
-    rw (c.untold-2.ensures, (let h : receive (numbers_of c.args.table) c.args.reader c.args.input.now c.args.assembly.now ≡ unrefused (numbers_of c.args.table) (run (assembling c.args.reader c.args.assembly.now) c.args.input.now) = receive_run (numbers_of c.args.table) c.args.reader c.args.input.now c.args.assembly.now (let h : breaks_rules (numbers_of c.args.table) c.args.reader ≡ false = sym c.breaks_rules.ensures ∙ c.if-breaks_rules.false in h) c.if-assembly-lt-MAX_GATHERED.false in h), ← read.ensures, t.0)
+    let t = tag_unchecked read.result.fate c.read_frame-reading.new.assembly (opened c.in_default.in_default-own.keys2) in
+    rw (c.untold-2.ensures, (rest (goal.at.returns c).After-read_frame-reading), ← read.ensures, t.0)

@@ -6,6 +6,11 @@ use Rattle.octets.specs.Writing.{Wrote}
 use Rattle.frame.proofs.FrameBounds.{frame_bounds}
 use Rattle.transactions.proofs.LawsWriting.{Framed, framed, fits_not, fits}
 use Rattle.transactions.proofs.writing.write_tight.Goals as goal
+use Rattle.transactions.proofs.writing.write_tight.Goals.{After-write_frame-count}
+
+made : (c : After-write_frame-count) → Framed c.args.body.now c.write_frame-count.result c.write_frame-count.new.out
+made c =
+    framed c.args.body.now _ _ _ c.write_frame-count.ensures
 
 pub write_frame-count-requires : goal.write_frame-count-requires
 write_frame-count-requires c =
@@ -13,21 +18,22 @@ write_frame-count-requires c =
 
 pub returns-then-out-count : goal.returns-then-out-count
 returns-then-out-count c =
-    sym (fits_not (c.args.body.now) _ (omega (arith, c.if-out-count.true, ((let h : Framed c.args.body.now c.write_frame-count.result c.write_frame-count.new.out = framed c.args.body.now _ _ _ c.write_frame-count.ensures in h)).count_is)))
+    sym (fits_not c.args.body.now _ (omega (arith, c.if-out-count.true, (made (goal.at.returns-then-out-count c).After-write_frame-count).count_is)))
 
 pub slice_bounds-space-end : goal.slice_bounds-space-end
 slice_bounds-space-end c =
-    ((let h : Framed c.args.body.now c.write_frame-count.result c.write_frame-count.new.out = framed c.args.body.now _ _ _ c.write_frame-count.ensures in h)).inside
+    (made (goal.at.slice_bounds-space-end c).After-write_frame-count).inside
 
 pub slice_bounds-write_octets-end : goal.slice_bounds-write_octets-end
 slice_bounds-write_octets-end c =
-    sym (length-take-le _ _ ((let h : Framed c.args.body.now c.write_frame-count.result c.write_frame-count.new.out = framed c.args.body.now _ _ _ c.write_frame-count.ensures in h)).inside)
+    sym (length-take-le _ _ (made (goal.at.slice_bounds-write_octets-end c).After-write_frame-count).inside)
 
 pub write_octets-requires : goal.write_octets-requires
 write_octets-requires c =
-    omega (arith, length-take-le c.write_frame-count.result c.write_frame-count.new.out ((let h : Framed c.args.body.now c.write_frame-count.result c.write_frame-count.new.out = framed c.args.body.now _ _ _ c.write_frame-count.ensures in h)).inside, c.if-out-count.false)
+    omega (arith, length-take-le c.write_frame-count.result c.write_frame-count.new.out (made (goal.at.write_octets-requires c).After-write_frame-count).inside, c.if-out-count.false)
 
 pub returns : goal.returns
 returns c =
-    fits (c.args.body.now) _ (omega (arith, c.if-out-count.false, ((let h : Framed c.args.body.now c.write_frame-count.result c.write_frame-count.new.out = framed c.args.body.now _ _ _ c.write_frame-count.ensures in h)).count_is))
-    (subst (Wrote _ _ 0 _) ((let h : Framed c.args.body.now c.write_frame-count.result c.write_frame-count.new.out = framed c.args.body.now _ _ _ c.write_frame-count.ensures in h)).stands c.write_octets.ensures)
+    let k = (goal.at.returns c).After-write_frame-count in
+    fits c.args.body.now _ (omega (arith, c.if-out-count.false, (made k).count_is))
+    (subst (Wrote _ _ 0 _) (made k).stands c.write_octets.ensures)
