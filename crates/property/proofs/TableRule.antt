@@ -1,28 +1,25 @@
 -- PROMISE: every row of the two tables keeps its rule, each by one test that is computed over the whole table; what is looked up is the
 -- row of that property, and keeps the rule; the slots that the rules of the state name are those of 65 and 66.
-use mathlib.Core.Path.{◌≡◌, refl, sym, ◌∙◌}
+use mathlib.Core.Path.{◌≡◌, refl, sym}
 use mathlib.Core.Bool.{Bool, true, false, cond, not, ◌&&◌, ◌||◌}
 use mathlib.Core.List.{List, [], ◌∷◌}
-use Prim.Native.Nat.{ℕ, zero, suc, ◌+◌, ◌^◌, ◌<◌, ◌≤◌}
+use Prim.Native.Nat.{ℕ, zero, suc, ◌^◌, ◌<◌, ◌≤◌}
 use native.Mathlib.Omega.{arith}
-use native.Mathlib.Numerals.{add-one}
-use borrow.Author.Tests.{eq-eqb, ne_eqb, eqb-true, ltb-true, leb-true}
+use borrow.Author.Tests.{eqb-true, ltb-true, leb-true}
 use lib.Dec.{eqb, ltb, leb}
-use lib.ListN.{length, get_or, drop}
-use lib.Seq.{drop-cons}
+use lib.ListN.{length, get_or}
+use Rattle.std.specs.Prelude.{Option, None, Some, find}
 use Rattle.octets.specs.Scanning.{all_from, all_below}
 use Rattle.octets.proofs.LawsScanning.{all_at}
 use Rattle.octets.proofs.LawsTests.{by_test, chosen, and_l, and_r}
-use Rattle.property.specs.Status.{RefusalStatus, parse_error, invalid_argument}
+use Rattle.property.specs.Status.{status_number, RefusalStatus, parse_error, invalid_argument}
 use Rattle.property.specs.declared.row.Kind.{Kind}
 use Rattle.property.specs.declared.row.Kind.TheVariants.{Power, Number}
 use Rattle.property.specs.declared.row.Row.{Row}
-use Rattle.property.specs.declared.row.Found.{Found}
-use Rattle.property.specs.declared.row.Found.TheVariants.{At, Unknown}
 use Rattle.property.specs.declared.number.Number.{Number as Numeric}
-use Rattle.property.specs.Row.{rows, no_row, lookup_in, lookup, row_count}
+use Rattle.property.specs.Row.{rows, no_row, lookup, row_count}
 use Rattle.property.specs.Number.{numbers, ids, number_at, power_state, interface_up, stack_up, within, slot_count}
-use Rattle.property.specs.Rule.{of_device, is_shared, kind_rule, row_rule, number_rule}
+use Rattle.property.specs.Rule.{of_device, is_shared, kind_rule, row_rule, KeepsRule, number_rule}
 
 pub rows_keep : (i : ℕ) → i < row_count → row_rule (get_or rows i no_row) ≡ true
 unfolding rows ids all_below all_from
@@ -45,33 +42,40 @@ unfolding within
 power_keeps = refl
 
 -- a row that is found is one of the table's, and that of the property asked for
-abbrev pub FoundIn : List Row → ℕ → Found → Type 0
-FoundIn rs id Unknown = Unit {0}
-FoundIn rs id (At r) = (i : ℕ) × (i < length rs) × (get_or rs i no_row ≡ r) × (r.id ≡ id)
+abbrev pub FoundIn : List Row → ℕ → Option Row → Type 0
+FoundIn rs id None = Unit {0}
+FoundIn rs id (Some r) = (i : ℕ) × (i < length rs) × (get_or rs i no_row ≡ r) × (r.id ≡ id)
 
-later : (x : Row) (rs : List Row) (id : ℕ) (f : Found) → FoundIn rs id f → FoundIn (x ∷ rs) id f
-later x rs id Unknown h = tt
-later x rs id (At r) h = (suc h.0, omega arith, h.2, h.3)
+later : (x : Row) (rs : List Row) (id : ℕ) (f : Option Row) → FoundIn rs id f → FoundIn (x ∷ rs) id f
+later x rs id None h = tt
+later x rs id (Some r) h = (suc h.0, omega arith, h.2, h.3)
 
-found_in : (rs : List Row) (id : ℕ) → FoundIn rs id (lookup_in rs id)
-unfolding lookup_in
+found_in : (rs : List Row) (id : ℕ) → FoundIn rs id (find (λ r. eqb r.id id) rs)
 found_in [] id = tt
 found_in (r ∷ rs) id =
-    chosen (FoundIn (r ∷ rs) id) (eqb r.id id) (λ e. (zero, omega arith, refl, eqb-true r.id id e)) (λ e. later r rs id (lookup_in rs id) (found_in rs id))
+    chosen (FoundIn (r ∷ rs) id) (eqb r.id id) (λ e. (zero, omega arith, refl, eqb-true r.id id e))
+    (λ e. later r rs id (find (λ r. eqb r.id id) rs) (found_in rs id))
 
 -- what is looked up keeps the rule, and is the property asked for
-abbrev pub Asked : ℕ → Found → Type 0
-Asked id Unknown = Unit {0}
-Asked id (At r) = (row_rule r ≡ true) × (r.id ≡ id)
+abbrev pub Asked : ℕ → Option Row → Type 0
+Asked id None = Unit {0}
+Asked id (Some r) = (row_rule r ≡ true) × (r.id ≡ id)
 
-asked : (id : ℕ) (f : Found) → FoundIn rows id f → Asked id f
+asked : (id : ℕ) (f : Option Row) → FoundIn rows id f → Asked id f
 unfolding rows
-asked id Unknown h = tt
-asked id (At r) h = (rw (← h.2) (rows_keep h.0 h.1), h.3)
+asked id None h = tt
+asked id (Some r) h = (rw (← h.2) (rows_keep h.0 h.1), h.3)
 
 pub lookup_asked : (id : ℕ) → Asked id (lookup id)
 unfolding lookup
-lookup_asked id = asked id (lookup_in rows id) (found_in rows id)
+lookup_asked id = asked id (find (λ r. eqb r.id id) rows) (found_in rows id)
+
+keeps : (id : ℕ) (f : Option Row) → Asked id f → KeepsRule f
+keeps id None a = tt
+keeps id (Some r) a = a.0
+
+pub lookup_keeps : (id : ℕ) → KeepsRule (lookup id)
+lookup_keeps id = keeps id (lookup id) (lookup_asked id)
 
 -- ---- what the rule tells
 
@@ -112,27 +116,8 @@ three_or_nine s t =
     (λ e. let nine = eqb-true s 9 (rw e at t) in rw nine parse_error)
 
 -- a value outside is refused with one of the nine statuses
-pub outside_refused : (n : Numeric) → number_rule n ≡ true → RefusalStatus n.outside
+pub outside_refused : (n : Numeric) → number_rule n ≡ true → RefusalStatus (status_number n.outside)
 outside_refused n t =
-    three_or_nine n.outside
-    (and_l (eqb n.outside 3 || eqb n.outside 9) _
-    (and_r (eqb (suc n.top) (256 ^ n.width)) _ (and_r (leb n.width 4) _ (and_r (leb 1 n.width) _ t))))
-
--- ---- looking from the i-th row on
-
-here : (rs : List Row) (i id : ℕ) → i < length rs
-    → lookup_in (drop i rs) id ≡ cond (eqb (get_or rs i no_row).id id) (At (get_or rs i no_row)) (lookup_in (drop (i + 1) rs) id)
-unfolding lookup_in
-here rs i id h = rw (add-one, drop-cons rs i no_row h)
-
-pub hit : (i id : ℕ) → i < row_count → (get_or rows i no_row).id ≡ id → lookup_in (drop i rows) id ≡ At (get_or rows i no_row)
-unfolding rows
-hit i id h e = here rows i id h ∙ rw (eq-eqb _ _ e)
-
-pub miss : (i id : ℕ) → i < row_count → ((get_or rows i no_row).id ≡ id → ⊥) → lookup_in (drop i rows) id ≡ lookup_in (drop (i + 1) rows) id
-unfolding rows
-miss i id h e = here rows i id h ∙ rw (ne_eqb _ _ e)
-
-pub past : (i id : ℕ) → i ≡ row_count → lookup_in (drop i rows) id ≡ Unknown
-unfolding rows lookup_in
-past i id e = rw e
+    let s = status_number n.outside in
+    three_or_nine s
+    (and_l (eqb s 3 || eqb s 9) _ (and_r (eqb (suc n.top) (256 ^ n.width)) _ (and_r (leb n.width 4) _ (and_r (leb 1 n.width) _ t))))

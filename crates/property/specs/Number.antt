@@ -1,14 +1,15 @@
 -- 01, The property table: the numbers.
 use Rattle.std.specs.Prelude.{ℕ, ◌^◌, ◌-◌, Bool, true, false, cond, List, [], ◌∷◌, map, ltb, leb, get_or}
 use Rattle.property.specs.declared.number.Number.{Number}
+use Rattle.property.specs.declared.status.Status.TheVariants.{Ok, InvalidArgument, ParseError}
 
 -- "a bool not 00 or 01: 9"
 abbrev pub bool : Number
-bool = record { width = 1; low = 0; high = 1; top = 255; outside = 9; default = 0 }
+bool = record { width = 1; low = 0; high = 1; top = 255; outside = ParseError; default = 0 }
 
 -- a number of so many octets, from low to high: "value out of range: 3"
 abbrev pub number : ℕ → ℕ → ℕ → ℕ → Number
-number width low high default = record { width = width; low = low; high = high; top = 256 ^ width - 1; outside = 3; default = default }
+number width low high default = record { width = width; low = low; high = high; top = 256 ^ width - 1; outside = InvalidArgument; default = default }
 
 -- how many of the table's values a link holds as plain numbers, each in a slot
 abbrev pub slot_count : ℕ
@@ -40,7 +41,7 @@ power_state = number 1 0 4 4
 
 -- the value past the end of the numbers
 abbrev pub no_number : Number
-no_number = record { width = 0; low = 0; high = 0; top = 0; outside = 0; default = 0 }
+no_number = record { width = 0; low = 0; high = 0; top = 0; outside = Ok; default = 0 }
 
 abbrev pub number_at : ℕ → Number
 number_at slot = get_or numbers slot no_number

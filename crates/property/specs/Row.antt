@@ -1,5 +1,5 @@
 -- 01, The property table: the rows.
-use Rattle.std.specs.Prelude.{ℕ, Bool, true, false, cond, List, [], ◌∷◌, eqb}
+use Rattle.std.specs.Prelude.{ℕ, Bool, true, false, List, [], ◌∷◌, eqb, Option, find}
 use Rattle.property.specs.declared.commands.Command.{Command}
 use Rattle.property.specs.declared.commands.Command.TheVariants.{Get, Set, Insert, Remove}
 use Rattle.property.specs.declared.row.ReadOnly.TheVariants.{LastStatus, ProtocolVersion, VersionText, InterfaceType, Vendor, Capabilities, InterfaceCount, HardwareAddress}
@@ -8,8 +8,6 @@ use Rattle.property.specs.declared.row.Kind.TheVariants.{ReadOnly, Power, Number
 use Rattle.property.specs.declared.row.Scope.{Scope}
 use Rattle.property.specs.declared.row.Scope.TheVariants as scope
 use Rattle.property.specs.declared.row.Row.{Row}
-use Rattle.property.specs.declared.row.Found.{Found}
-use Rattle.property.specs.declared.row.Found.TheVariants.{At, Unknown}
 
 -- "Every property allows GET": the commands beside it, by 01's column Writable
 abbrev pub read_only : ℕ → Scope → Kind → Row
@@ -53,13 +51,9 @@ rows =
 abbrev pub no_row : Row
 no_row = record { id = 0; kind = ReadOnly LastStatus; get = false; set = false; items = false; scope = scope.Device }
 
-unfoldable pub lookup_in : List Row → ℕ → Found
-lookup_in [] id = Unknown
-lookup_in (r ∷ rs) id = cond (eqb r.id id) (At r) (lookup_in rs id)
-
--- the row of a property
-unfoldable pub lookup : ℕ → Found
-lookup id = lookup_in rows id
+-- the row of a property, or none: the property is unknown
+unfoldable pub lookup : ℕ → Option Row
+lookup id = find (λ r. eqb r.id id) rows
 
 unfoldable pub allows : Row → Command → Bool
 allows r Get = r.get

@@ -1,5 +1,5 @@
 -- The rules of the two tables, which a lookup's caller may rely on.
-use Rattle.std.specs.Prelude.{suc, ◌^◌, Bool, true, false, cond, not, ◌&&◌, ◌||◌, ◌≡◌, eqb, ltb, leb, get_or}
+use Rattle.std.specs.Prelude.{suc, ◌^◌, Bool, true, false, cond, not, ◌&&◌, ◌||◌, ◌≡◌, eqb, ltb, leb, get_or, Option, None, Some}
 use Rattle.property.specs.declared.row.ReadOnly.{ReadOnly as Fixed}
 use Rattle.property.specs.declared.row.ReadOnly.TheVariants.{LastStatus, ProtocolVersion, VersionText, InterfaceType, Vendor, Capabilities, InterfaceCount, HardwareAddress}
 use Rattle.property.specs.declared.row.Kind.{Kind}
@@ -7,10 +7,9 @@ use Rattle.property.specs.declared.row.Kind.TheVariants.{ReadOnly, Power, Number
 use Rattle.property.specs.declared.row.Scope.{Scope}
 use Rattle.property.specs.declared.row.Scope.TheVariants as scope
 use Rattle.property.specs.declared.row.Row.{Row}
-use Rattle.property.specs.declared.row.Found.{Found}
-use Rattle.property.specs.declared.row.Found.TheVariants.{At, Unknown}
 use Rattle.property.specs.declared.number.Number.{Number as Numeric}
 use Rattle.property.specs.Number.{ids, within, slot_count}
+use Rattle.property.specs.Status.{status_number}
 
 abbrev pub of_device : Scope → Bool
 of_device scope.Device = true
@@ -48,12 +47,13 @@ kind_rule Ports r = true
 abbrev pub row_rule : Row → Bool
 row_rule r = r.get && (cond (of_device r.scope) (is_shared r.kind) (not (is_shared r.kind)) && (ltb r.id 16384 && kind_rule r.kind r))
 
-abbrev pub KeepsRule : Found → Type 0
-KeepsRule Unknown = Unit {0}
-KeepsRule (At r) = row_rule r ≡ true
+abbrev pub KeepsRule : Option Row → Type 0
+KeepsRule None = Unit {0}
+KeepsRule (Some r) = row_rule r ≡ true
 
 -- 1 to 4 octets, the top of that width, 3 or 9 for a value outside ("value out of range: 3", "a bool not 00 or 01: 9"), and a default
 -- that is one of the values
 abbrev pub number_rule : Numeric → Bool
 number_rule n =
-    leb 1 n.width && (leb n.width 4 && (eqb (suc n.top) (256 ^ n.width) && ((eqb n.outside 3 || eqb n.outside 9) && within n n.default)))
+    let s = status_number n.outside in
+    leb 1 n.width && (leb n.width 4 && (eqb (suc n.top) (256 ^ n.width) && ((eqb s 3 || eqb s 9) && within n n.default)))

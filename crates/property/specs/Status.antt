@@ -1,5 +1,22 @@
 -- Statuses (01, Setup and Commands; 000, section 6).
 use Rattle.std.specs.Prelude.{ℕ}
+use Rattle.property.specs.declared.status.Status.{Status}
+use Rattle.property.specs.declared.status.Status.TheVariants as status
+
+-- the numbers of 000, section 6
+abbrev pub status_number : Status → ℕ
+status_number status.Ok = 0
+status_number status.InvalidArgument = 3
+status_number status.InvalidState = 4
+status_number status.InvalidCommand = 5
+status_number status.InvalidInterface = 6
+status_number status.ParseError = 9
+status_number status.NoMem = 11
+status_number status.PropNotFound = 13
+status_number status.Already = 19
+status_number status.ItemNotFound = 20
+status_number status.InvalidCommandForProp = 21
+status_number status.ResetSoftware = 114
 
 -- "each last status 0 to 127"
 abbrev pub max_status : ℕ

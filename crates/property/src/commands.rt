@@ -1,7 +1,7 @@
 // Commands and their numbers (01, Commands), by 000's names.
 
 // The commands that name a property.
-#[derive(Clone, Copy)]
+#[derive(Clone, Copy, PartialEq, Eq)]
 pub enum Command {
     Get,
     Set,

@@ -5,8 +5,9 @@ pub mod commands;
 mod number;
 mod row;
 pub mod slot;
-pub mod status;
+mod status;
 
 pub use commands::Command;
 pub use number::{Number, is_within, number_at, power_state};
-pub use row::{Found, Kind, ReadOnly, Row, Scope, allows, find};
+pub use row::{Kind, ReadOnly, Row, Scope, find};
+pub use status::Status;

@@ -3,101 +3,87 @@ ghost use Rattle.std.specs.Prelude.{◌≡◌, ◌<◌, true};
 ghost use Rattle.property.specs.Number.{number_at, power_state, within, slot_count};
 ghost use Rattle.property.specs.Rule.{number_rule};
 
-use crate::{slot, status};
+use crate::slot;
+use crate::status::Status;
 
 // A number's octets; its values, from low to high, or where low is above high those but the ones between; the largest number of the
 // width; the status of any other value.
-#[derive(Clone, Copy)]
+#[derive(Clone, Copy, PartialEq, Eq)]
 pub struct Number {
     pub width: usize,
     pub low: u32,
     pub high: u32,
     pub top: u32,
-    pub outside: u8,
+    pub outside: Status,
     pub default: u32,
 }
 
+// "A bool not 00 or 01: 9".
+const BOOL: Number = Number {
+    width: 1,
+    low: 0,
+    high: 1,
+    top: 255,
+    outside: Status::ParseError,
+    default: 0,
+};
+
+// Any octet; of a narrower number, "value out of range: 3".
+const OCTET: Number = Number {
+    width: 1,
+    low: 0,
+    high: 255,
+    top: 255,
+    outside: Status::InvalidArgument,
+    default: 0,
+};
+
+const TWO_OCTETS: Number = Number {
+    width: 2,
+    high: 65535,
+    top: 65535,
+    ..OCTET
+};
+
 const NUMBERS: [Number; slot::COUNT] = [
     // PHY enabled.
-    Number {
-        width: 1,
-        low: 0,
-        high: 1,
-        top: 255,
-        outside: status::PARSE_ERROR,
-        default: 0,
-    },
+    BOOL,
     // Channel.
     Number {
-        width: 1,
         low: 11,
         high: 26,
-        top: 255,
-        outside: status::INVALID_ARGUMENT,
         default: 11,
+        ..OCTET
     },
     // Transmit power, a signed octet from -40 (216) to 8.
     Number {
-        width: 1,
         low: 216,
         high: 8,
-        top: 255,
-        outside: status::INVALID_ARGUMENT,
-        default: 0,
+        ..OCTET
     },
     // PAN id.
     Number {
-        width: 2,
-        low: 0,
-        high: 65535,
-        top: 65535,
-        outside: status::INVALID_ARGUMENT,
         default: 65535,
+        ..TWO_OCTETS
     },
     // Interface up.
-    Number {
-        width: 1,
-        low: 0,
-        high: 1,
-        top: 255,
-        outside: status::PARSE_ERROR,
-        default: 0,
-    },
+    BOOL,
     // Stack up.
-    Number {
-        width: 1,
-        low: 0,
-        high: 1,
-        top: 255,
-        outside: status::PARSE_ERROR,
-        default: 0,
-    },
+    BOOL,
     // Thread mode.
-    Number {
-        width: 1,
-        low: 0,
-        high: 255,
-        top: 255,
-        outside: status::INVALID_ARGUMENT,
-        default: 0,
-    },
+    OCTET,
     // Child timeout.
     Number {
         width: 4,
-        low: 0,
         high: 4294967295,
         top: 4294967295,
-        outside: status::INVALID_ARGUMENT,
         default: 240,
+        ..OCTET
     },
     // RLOC16.
     Number {
-        width: 2,
-        low: 0,
-        high: 65535,
-        top: 65535,
-        outside: status::INVALID_ARGUMENT,
         default: 65534,
+        ..TWO_OCTETS
     },
 ];
 
@@ -115,30 +101,22 @@ pub fn power_state() -> Number
     ensures { result ≡ power_state }
 {
     Number {
-        width: 1,
-        low: 0,
         high: 4,
-        top: 255,
-        outside: status::INVALID_ARGUMENT,
         default: 4,
+        ..OCTET
     }
 }
 
 // Whether a number may have a value.
+#[tactic(auto, unfolding(crate::specs::Number::within))]
 pub fn is_within(number: Number, value: u32) -> bool
     ensures { result ≡ within number value }
 {
-    if number.top < value {
-        return false;
-    }
-    if number.low <= number.high {
-        if value < number.low {
-            return false;
-        }
-        return value <= number.high;
-    }
-    if value <= number.high {
-        return true;
-    }
-    number.low <= value
+    let Number { low, high, top, .. } = number;
+    let inside = if low <= high {
+        (low..=high).contains(&value)
+    } else {
+        value <= high || low <= value
+    };
+    inside && value <= top
 }

@@ -1,13 +1,13 @@
 // The twenty rows (01, The property table).
-ghost use Rattle.std.specs.Prelude.{◌≡◌, ◌<◌, get_or};
-ghost use Rattle.property.specs.Row.{rows, no_row, lookup, allows, row_count};
+ghost use Rattle.std.specs.Prelude.{◌≡◌};
+ghost use Rattle.property.specs.Row.{lookup, allows};
 ghost use Rattle.property.specs.Rule.{KeepsRule};
 
 use crate::commands::Command;
 use crate::slot;
 
 // A property that no command changes.
-#[derive(Clone, Copy)]
+#[derive(Clone, Copy, PartialEq, Eq)]
 pub enum ReadOnly {
     LastStatus,
     ProtocolVersion,
@@ -20,7 +20,7 @@ pub enum ReadOnly {
 }
 
 // What a property holds; a number, by its slot in a link.
-#[derive(Clone, Copy)]
+#[derive(Clone, Copy, PartialEq, Eq)]
 pub enum Kind {
     ReadOnly(ReadOnly),
     Power,
@@ -30,13 +30,13 @@ pub enum Kind {
 }
 
 // Whose value it is.
-#[derive(Clone, Copy)]
+#[derive(Clone, Copy, PartialEq, Eq)]
 pub enum Scope {
     Device,
     Link,
 }
 
-#[derive(Clone, Copy)]
+#[derive(Clone, Copy, PartialEq, Eq)]
 pub struct Row {
     pub id: u32,
     pub kind: Kind,
@@ -49,207 +49,145 @@ pub struct Row {
 
 impl Row {
     pub const COUNT: usize = 20;
+
+    #[tactic(auto, unfolding(crate::specs::Row::allows))]
+    pub fn allows(self, command: Command) -> bool
+        ensures { result ≡ allows self command }
+    {
+        match command {
+            Command::Get => self.get,
+            Command::Set => self.set,
+            Command::Insert | Command::Remove => self.items,
+        }
+    }
 }
 
-#[derive(Clone, Copy)]
-pub enum Found {
-    At(Row),
-    Unknown,
-}
+// "Every property allows GET"; the commands beside it are by 01's column Writable. Constants, since a constant's value calls no function.
+const READ_ONLY: Row = Row {
+    id: 0,
+    kind: Kind::ReadOnly(ReadOnly::LastStatus),
+    get: true,
+    set: false,
+    items: false,
+    scope: Scope::Device,
+};
+
+const SETTABLE: Row = Row {
+    set: true,
+    scope: Scope::Link,
+    ..READ_ONLY
+};
 
 const ROWS: [Row; Row::COUNT] = [
     Row {
         id: 0,
         kind: Kind::ReadOnly(ReadOnly::LastStatus),
-        get: true,
-        set: false,
-        items: false,
         scope: Scope::Link,
+        ..READ_ONLY
     },
     Row {
         id: 1,
         kind: Kind::ReadOnly(ReadOnly::ProtocolVersion),
-        get: true,
-        set: false,
-        items: false,
-        scope: Scope::Device,
+        ..READ_ONLY
     },
     Row {
         id: 2,
         kind: Kind::ReadOnly(ReadOnly::VersionText),
-        get: true,
-        set: false,
-        items: false,
-        scope: Scope::Device,
+        ..READ_ONLY
     },
     Row {
         id: 3,
         kind: Kind::ReadOnly(ReadOnly::InterfaceType),
-        get: true,
-        set: false,
-        items: false,
-        scope: Scope::Device,
+        ..READ_ONLY
     },
     Row {
         id: 4,
         kind: Kind::ReadOnly(ReadOnly::Vendor),
-        get: true,
-        set: false,
-        items: false,
-        scope: Scope::Device,
+        ..READ_ONLY
     },
     Row {
         id: 5,
         kind: Kind::ReadOnly(ReadOnly::Capabilities),
-        get: true,
-        set: false,
-        items: false,
-        scope: Scope::Device,
+        ..READ_ONLY
     },
     Row {
         id: 6,
         kind: Kind::ReadOnly(ReadOnly::InterfaceCount),
-        get: true,
-        set: false,
-        items: false,
-        scope: Scope::Device,
+        ..READ_ONLY
     },
     Row {
         id: 7,
         kind: Kind::Power,
-        get: true,
-        set: true,
-        items: false,
         scope: Scope::Device,
+        ..SETTABLE
     },
     Row {
         id: 8,
         kind: Kind::ReadOnly(ReadOnly::HardwareAddress),
-        get: true,
-        set: false,
-        items: false,
-        scope: Scope::Device,
+        ..READ_ONLY
     },
     Row {
         id: 32,
         kind: Kind::Number(slot::PHY_ENABLED),
-        get: true,
-        set: true,
-        items: false,
-        scope: Scope::Link,
+        ..SETTABLE
     },
     Row {
         id: 33,
         kind: Kind::Number(slot::CHANNEL),
-        get: true,
-        set: true,
-        items: false,
-        scope: Scope::Link,
+        ..SETTABLE
     },
     Row {
         id: 37,
         kind: Kind::Number(slot::TRANSMIT_POWER),
-        get: true,
-        set: true,
-        items: false,
-        scope: Scope::Link,
+        ..SETTABLE
     },
     Row {
         id: 54,
         kind: Kind::Number(slot::PAN_ID),
-        get: true,
-        set: true,
-        items: false,
-        scope: Scope::Link,
+        ..SETTABLE
     },
     Row {
         id: 65,
         kind: Kind::Number(slot::INTERFACE_UP),
-        get: true,
-        set: true,
-        items: false,
-        scope: Scope::Link,
+        ..SETTABLE
     },
     Row {
         id: 66,
         kind: Kind::Number(slot::STACK_UP),
-        get: true,
-        set: true,
-        items: false,
-        scope: Scope::Link,
+        ..SETTABLE
     },
     Row {
         id: 68,
         kind: Kind::Name,
-        get: true,
-        set: true,
-        items: false,
-        scope: Scope::Link,
+        ..SETTABLE
     },
     Row {
         id: 92,
         kind: Kind::Ports,
-        get: true,
-        set: true,
         items: true,
-        scope: Scope::Link,
+        ..SETTABLE
     },
     Row {
         id: 94,
         kind: Kind::Number(slot::THREAD_MODE),
-        get: true,
-        set: true,
-        items: false,
-        scope: Scope::Link,
+        ..SETTABLE
     },
     Row {
         id: 5376,
         kind: Kind::Number(slot::CHILD_TIMEOUT),
-        get: true,
-        set: true,
-        items: false,
-        scope: Scope::Link,
+        ..SETTABLE
     },
     Row {
         id: 5377,
         kind: Kind::Number(slot::RLOC16),
-        get: true,
-        set: true,
-        items: false,
-        scope: Scope::Link,
+        ..SETTABLE
     },
 ];
 
-fn row_at(i: usize) -> Row
-    requires { i < row_count }
-    ensures { result ≡ get_or rows i no_row }
-{
-    ROWS[i]
-}
-
 // The row of a property. A row that is found keeps the table's rule.
-pub fn find(id: u32) -> Found
+pub fn find(id: u32) -> Option<Row>
     ensures is { result ≡ lookup id }
     ensures rule { KeepsRule result }
 {
-    let mut i: usize = 0;
-    while i < Row::COUNT {
-        let row = row_at(i);
-        if row.id == id {
-            return Found::At(row);
-        }
-        i += 1;
-    }
-    Found::Unknown
-}
-
-pub fn allows(row: Row, command: Command) -> bool
-    ensures { result ≡ allows row command }
-{
-    match command {
-        Command::Get => row.get,
-        Command::Set => row.set,
-        Command::Insert => row.items,
-        Command::Remove => row.items,
-    }
+    ROWS.iter().find(|row| row.id == id).copied()
 }

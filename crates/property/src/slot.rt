@@ -1,4 +1,4 @@
-// Where a link holds each of its nine numbers.
+// Where a link holds each of its nine numbers: a place in an array, as `number_at` takes it (its `requires`), and no enum.
 pub const COUNT: usize = 9;
 
 pub const PHY_ENABLED: usize = 0;
