@@ -12,8 +12,7 @@ use lib.Seq.{drop-append_seam}
 use Rattle.octets.specs.Octets.{Octets}
 use Rattle.octets.proofs.LawsLists.{octets_more}
 use Rattle.octets.proofs.LawsTests.{by_test}
-use Rattle.packed.specs.Packed.{packed, packed_in, joined, number_in, packed_at, max_packed}
-use Rattle.packed.specs.declared.Packed.TheVariants.{Number}
+use Rattle.packed.specs.Packed.{packed, packed_in, joined, number_in, packed_at, max_packed, read}
 use Rattle.packed.proofs.LawsPacked.{size_in, packed_last, packed_more}
 
 pub packed_size : (n : ℕ) → (1 ≤ length (packed n)) × (length (packed n) ≤ 3)
@@ -35,7 +34,7 @@ pub packed_octets : (n : ℕ) → n ≤ max_packed → Octets (packed n)
 unfolding packed
 packed_octets n most = octets_in 2 n (omega arith)
 
-back : (k at n : ℕ) (after : List ℕ) → n < 128 ^ suc k → number_in (suc k) at (packed_in k n ++ after) ≡ Number n (at + length (packed_in k n))
+back : (k at n : ℕ) (after : List ℕ) → n < 128 ^ suc k → number_in (suc k) at (packed_in k n ++ after) ≡ read n (at + length (packed_in k n))
 unfolding number_in joined
 back zero at n after h = rw (packed_last 0 n h, lt-ltb n 128 h)
 back (suc k) at n after h =
@@ -45,9 +44,9 @@ back (suc k) at n after h =
     let high : 128 ≤ n = ltb-false n 128 e in
     let pos : eqb (n / 128) 0 ≡ false = ne_eqb (n / 128) 0 (λ z. omega arith) in
     rw (packed_more k n high, le-ltb (n % 128 + 128) 128 (omega arith), back k (at + 1) (n / 128) after (omega arith), pos)
-    (ap₂ Number (omega arith) (omega arith)))
+    (ap₂ read (omega arith) (omega arith)))
 
 pub reads_back : (before after : List ℕ) (n : ℕ) → n ≤ max_packed
-    → packed_at (before ++ (packed n ++ after)) (length before) ≡ Number n (length before + length (packed n))
+    → packed_at (before ++ (packed n ++ after)) (length before) ≡ read n (length before + length (packed n))
 unfolding packed_at packed
 reads_back before after n most = rw drop-append_seam (back 2 (length before) n after (omega arith))

@@ -10,11 +10,12 @@ use lib.Dec.{eqb, ltb, leb}
 use lib.ListN.{length, get_or, take, drop, length-drop}
 use lib.Seq.{get_or-drop}
 use Rattle.octets.proofs.LawsTests.{by_test}
-use Rattle.packed.specs.Packed.{packed, packed_in, joined, number_in, packed_at, max_packed}
+use Rattle.packed.specs.Packed.{packed, packed_in, joined, number_in, packed_at, max_packed, read}
 use Rattle.packed.specs.Faults.{TopBit, IsZero, RunsOut, no_octet, only_one, only_two, GoesOn, EndsInZero, in_second, in_third, sevens, HasShorter}
 use Rattle.packed.specs.declared.Fault.TheVariants as fault
 use Rattle.packed.specs.declared.Packed.{Packed}
-use Rattle.packed.specs.declared.Packed.TheVariants.{Number, Unreadable}
+use Rattle.packed.specs.declared.Fault.{Fault}
+use Rattle.std.specs.Prelude.{Result, Ok, Err}
 use Rattle.packed.proofs.OneSpelling.{octet_alone, past_end}
 use Rattle.packed.proofs.ReadsBack.{packed_size, reads_back}
 use Rattle.packed.proofs.LawsPacked.{size_in, packed_last, packed_more, joined_joined, number_none, number_last, number_more}
@@ -61,11 +62,11 @@ unfolding packed
 sevens_packed n most = sevens_in 2 n (omega arith)
 
 -- what an answer says of the octets
-abbrev Told : List ℕ → ℕ → Packed → Type 0
-Told xs at (Number n next) = Unit {0}
-Told xs at (Unreadable fault.RanOut) = RunsOut xs at
-Told xs at (Unreadable fault.GoesOn) = GoesOn xs at
-Told xs at (Unreadable fault.NotShortest) = EndsInZero xs at
+abbrev Told : List ℕ → ℕ → Result Packed Fault → Type 0
+Told xs at (Ok p) = Unit {0}
+Told xs at (Err fault.RanOut) = RunsOut xs at
+Told xs at (Err fault.GoesOn) = GoesOn xs at
+Told xs at (Err fault.NotShortest) = EndsInZero xs at
 
 module _ (xs : List ℕ) where
   -- what stands at a place: no octet, one that ends the number, or one that has the top bit set
@@ -87,28 +88,28 @@ module _ (xs : List ℕ) where
 
     -- ---- what the octets are, and what is then told
 
-    told_one : length xs ≤ at + 1 → TopBit xs at → packed_at xs at ≡ Unreadable fault.RanOut
+    told_one : length xs ≤ at + 1 → TopBit xs at → packed_at xs at ≡ Err fault.RanOut
     unfolding joined
     told_one h a = rw (first_more a, number_none xs (at + 1) 2 (omega arith) h)
 
-    told_two : length xs ≤ at + 2 → TopBit xs at → TopBit xs (at + 1) → packed_at xs at ≡ Unreadable fault.RanOut
+    told_two : length xs ≤ at + 2 → TopBit xs at → TopBit xs (at + 1) → packed_at xs at ≡ Err fault.RanOut
     unfolding joined
     told_two h a b = rw (both_more a b, number_none xs (at + 2) 1 (omega arith) h)
 
-    told_second : TopBit xs at → IsZero xs (at + 1) → packed_at xs at ≡ Unreadable fault.NotShortest
+    told_second : TopBit xs at → IsZero xs (at + 1) → packed_at xs at ≡ Err fault.NotShortest
     unfolding joined
     told_second a z = rw (first_more a, number_last xs (at + 1) 2 (omega arith) z.there (omega (arith, z.octet)), z.octet)
 
-    told_third : TopBit xs at → TopBit xs (at + 1) → IsZero xs (at + 2) → packed_at xs at ≡ Unreadable fault.NotShortest
+    told_third : TopBit xs at → TopBit xs (at + 1) → IsZero xs (at + 2) → packed_at xs at ≡ Err fault.NotShortest
     unfolding joined
     told_third a b z = rw (both_more a b, number_last xs (at + 2) 1 (omega arith) z.there (omega (arith, z.octet)), z.octet)
 
-    told_on : TopBit xs at → TopBit xs (at + 1) → TopBit xs (at + 2) → packed_at xs at ≡ Unreadable fault.GoesOn
+    told_on : TopBit xs at → TopBit xs (at + 1) → TopBit xs (at + 2) → packed_at xs at ≡ Err fault.GoesOn
     unfolding joined number_in
     told_on a b c = rw (both_more a b, number_more xs (at + 2) 1 (omega arith) c.there c.top)
 
     -- a last octet behind others is 0, or ends a number
-    ended : (low scale n next : ℕ) (r : Packed) → packed_at xs at ≡ joined low scale r → r ≡ Number n next → (n ≡ 0 → EndsInZero xs at)
+    ended : (low scale n next : ℕ) (r : Result Packed Fault) → packed_at xs at ≡ joined low scale r → r ≡ read n next → (n ≡ 0 → EndsInZero xs at)
         → Told xs at (packed_at xs at)
     unfolding joined
     ended low scale n next r e last none = by_test (eqb n 0) (λ t. rw (e, last, t) (none (eqb-true n 0 t))) (λ t. rw (e, last, t) tt)
@@ -124,24 +125,24 @@ module _ (xs : List ℕ) where
 
     -- ---- each exactly when
 
-    pub ran_out : packed_at xs at ≡ Unreadable fault.RanOut → RunsOut xs at
+    pub ran_out : packed_at xs at ≡ Err fault.RanOut → RunsOut xs at
     ran_out e = rw e at told
 
-    pub ran_out_told : RunsOut xs at → packed_at xs at ≡ Unreadable fault.RanOut
+    pub ran_out_told : RunsOut xs at → packed_at xs at ≡ Err fault.RanOut
     ran_out_told (no_octet h) = past_end xs at h
     ran_out_told (only_one h a) = told_one (omega arith) a
     ran_out_told (only_two h a b) = told_two (omega arith) a b
 
-    pub goes_on : packed_at xs at ≡ Unreadable fault.GoesOn → GoesOn xs at
+    pub goes_on : packed_at xs at ≡ Err fault.GoesOn → GoesOn xs at
     goes_on e = rw e at told
 
-    pub goes_on_told : GoesOn xs at → packed_at xs at ≡ Unreadable fault.GoesOn
+    pub goes_on_told : GoesOn xs at → packed_at xs at ≡ Err fault.GoesOn
     goes_on_told g = told_on g.first g.second g.third
 
-    pub not_shortest : packed_at xs at ≡ Unreadable fault.NotShortest → EndsInZero xs at
+    pub not_shortest : packed_at xs at ≡ Err fault.NotShortest → EndsInZero xs at
     not_shortest e = rw e at told
 
-    pub not_shortest_told : EndsInZero xs at → packed_at xs at ≡ Unreadable fault.NotShortest
+    pub not_shortest_told : EndsInZero xs at → packed_at xs at ≡ Err fault.NotShortest
     not_shortest_told (in_second a z) = told_second a z
     not_shortest_told (in_third a b z) = told_third a b z
 
@@ -170,7 +171,7 @@ module _ (xs : List ℕ) where
           fewer = omega (arith, few_in less 2 n small);
         }
 
-    pub shorter : packed_at xs at ≡ Unreadable fault.NotShortest → HasShorter xs at
+    pub shorter : packed_at xs at ≡ Err fault.NotShortest → HasShorter xs at
     shorter e = go (not_shortest e)
       where
         one : TopBit xs at → (i : ℕ) → i < 1 → TopBit xs (at + i)
@@ -187,7 +188,7 @@ module _ (xs : List ℕ) where
         go (in_third a b z) = ends_shorter 1 (omega arith) (two a b) z
 
     -- and where the last octet is not 0 there is none
-    pub shorter_told : HasShorter xs at → packed_at xs at ≡ Unreadable fault.NotShortest
+    pub shorter_told : HasShorter xs at → packed_at xs at ≡ Err fault.NotShortest
     unfolding packed
     shorter_told s = go s.more (omega (arith, s.fewer, packed_size s.number)) s.most s.tops last
       where
@@ -198,7 +199,7 @@ module _ (xs : List ℕ) where
             (λ t. let high = rw s.stands at ((by_last s.more s.there s.last).1 (eqb-false _ _ t)) in
             absurd (omega (arith, s.fewer, many_in s.more 2 s.number s.most high)))
 
-        go : (k : ℕ) → 1 ≤ k → k ≤ 2 → ((i : ℕ) → i < k → TopBit xs (at + i)) → IsZero xs (at + k) → packed_at xs at ≡ Unreadable fault.NotShortest
+        go : (k : ℕ) → 1 ≤ k → k ≤ 2 → ((i : ℕ) → i < k → TopBit xs (at + i)) → IsZero xs (at + k) → packed_at xs at ≡ Err fault.NotShortest
         go zero some few tops z = absurd (omega arith)
         go (suc zero) some few tops z = told_second (rw (add-zero at) at (tops 0 (omega arith))) z
         go (suc (suc zero)) some few tops z = told_third (rw (add-zero at) at (tops 0 (omega arith))) (tops 1 (omega arith)) z

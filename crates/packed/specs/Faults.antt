@@ -1,8 +1,7 @@
 -- Why octets are no packed integer (02, T-07): the three faults by the octets from a place on, without a reader; and that a shorter spelling
 -- exists, by what is written and read.
 use Rattle.std.specs.Prelude.{List, [], ◌∷◌, ◌≡◌, ℕ, suc, ◌+◌, ◌*◌, ◌%◌, ◌<◌, ◌≤◌, length, get_or, take, drop}
-use Rattle.packed.specs.Packed.{packed, packed_at}
-use Rattle.packed.specs.declared.Packed.TheVariants.{Number}
+use Rattle.packed.specs.Packed.{packed, packed_at, read}
 
 -- at a place there is an octet that has the top bit set, or one that is 0
 pub record TopBit (xs : List ℕ) (at : ℕ) : Type 0 where
@@ -45,5 +44,5 @@ pub record HasShorter (xs : List ℕ) (at : ℕ) : Type 0 where
   pub last : get_or xs (at + more) 0 < 128
   pub number : ℕ
   pub stands : sevens (take (suc more) (drop at xs)) ≡ number
-  pub reads : packed_at (packed number) 0 ≡ Number number (length (packed number))
+  pub reads : packed_at (packed number) 0 ≡ read number (length (packed number))
   pub fewer : length (packed number) < suc more

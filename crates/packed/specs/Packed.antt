@@ -1,8 +1,8 @@
 -- Packed unsigned integers (01, Packed integers; 000, section 3.2), and why octets are none (02, T-07).
-use Rattle.std.specs.Prelude.{ℕ, zero, suc, ◌+◌, ◌*◌, ◌-◌, ◌/◌, ◌%◌, cond, List, [], ◌∷◌, eqb, ltb, drop}
+use Rattle.std.specs.Prelude.{ℕ, Result, Ok, Err, zero, suc, ◌+◌, ◌*◌, ◌-◌, ◌/◌, ◌%◌, cond, List, [], ◌∷◌, eqb, ltb, drop}
+use Rattle.packed.specs.declared.Fault.{Fault}
 use Rattle.packed.specs.declared.Fault.TheVariants.{RanOut, GoesOn, NotShortest}
 use Rattle.packed.specs.declared.Packed.{Packed}
-use Rattle.packed.specs.declared.Packed.TheVariants.{Number, Unreadable}
 
 -- a number in at most `more` + 1 octets: seven bits an octet, least significant first, top bit set on all but the last, fewest octets
 unfoldable pub packed_in : ℕ → ℕ → List ℕ
@@ -16,18 +16,22 @@ max_packed = 2097151
 unfoldable pub packed : ℕ → List ℕ
 packed n = packed_in 2 n
 
+-- a number that is read, and the place after it
+abbrev pub read : ℕ → ℕ → Result Packed Fault
+read n next = Ok (record { number = n; next = next })
+
 -- `low` and, `scale` times, the number that the octets after it stand for; if that is 0, "a shorter spelling exists"
-unfoldable pub joined : ℕ → ℕ → Packed → Packed
-joined low scale (Unreadable f) = Unreadable f
-joined low scale (Number n next) = cond (eqb n 0) (Unreadable NotShortest) (Number (low + scale * n) next)
+unfoldable pub joined : ℕ → ℕ → Result Packed Fault → Result Packed Fault
+joined low scale (Err f) = Err f
+joined low scale (Ok p) = cond (eqb p.number 0) (Err NotShortest) (read (low + scale * p.number) p.next)
 
 -- the number in at most so many octets, which stand from a place on; none where there would be one more (of three: "a third octet still had
 -- its top bit set"), or where "the octets ran out"
-unfoldable pub number_in : ℕ → ℕ → List ℕ → Packed
-number_in zero at xs = Unreadable GoesOn
-number_in (suc most) at [] = Unreadable RanOut
-number_in (suc most) at (x ∷ xs) = cond (ltb x 128) (Number x (at + 1)) (joined (x - 128) 128 (number_in most (at + 1) xs))
+unfoldable pub number_in : ℕ → ℕ → List ℕ → Result Packed Fault
+number_in zero at xs = Err GoesOn
+number_in (suc most) at [] = Err RanOut
+number_in (suc most) at (x ∷ xs) = cond (ltb x 128) (read x (at + 1)) (joined (x - 128) 128 (number_in most (at + 1) xs))
 
 -- the packed integer at a place of a list
-unfoldable pub packed_at : List ℕ → ℕ → Packed
+unfoldable pub packed_at : List ℕ → ℕ → Result Packed Fault
 packed_at xs at = number_in 3 at (drop at xs)

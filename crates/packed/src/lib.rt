@@ -9,7 +9,7 @@ ghost use Rattle.packed.specs.Packed.{packed, packed_at, max_packed};
 use octets::write_octet;
 
 // Why octets at a place are no packed integer.
-#[derive(Clone, Copy)]
+#[derive(Clone, Copy, PartialEq, Eq)]
 pub enum Fault {
     // The octets ran out: there is none, or one or two that all have the top bit set.
     RanOut,
@@ -19,18 +19,11 @@ pub enum Fault {
     NotShortest,
 }
 
-// What stands at a place: a number and the place after it, or why there is none.
-#[derive(Clone, Copy)]
-pub enum Packed {
-    Number(u32, usize),
-    Unreadable(Fault),
-}
-
-// What a refusal tells beside its number or its status: the fault of a packed integer, where that is the first fault.
-#[derive(Clone, Copy)]
-pub enum Cause {
-    None,
-    Integer(Fault),
+// The number that stands at a place, and the place after it.
+#[derive(Clone, Copy, PartialEq, Eq)]
+pub struct Packed {
+    pub number: u32,
+    pub next: usize,
 }
 
 impl Packed {
@@ -38,38 +31,27 @@ impl Packed {
     pub const MAX: u32 = 2097151;
 }
 
-pub fn read_packed(octets: &[u8], at: usize) -> Packed
+pub fn read_packed(octets: &[u8], at: usize) -> Result<Packed, Fault>
     ensures { result ≡ packed_at octets.now at }
 {
-    if octets.len() <= at {
-        return Packed::Unreadable(Fault::RanOut);
-    }
-    let first = octets[at] as u32;
-    let mut next = at + 1;
-    if first < 128 {
-        return Packed::Number(first, next);
-    }
-    let mut n = first - 128;
-    let mut scale: u32 = 128;
-    let mut left: usize = 2;
-    while 0 < left {
-        if octets.len() <= next {
-            return Packed::Unreadable(Fault::RanOut);
-        }
-        let octet = octets[next] as u32;
+    let mut number = 0;
+    let mut next = at;
+    for scale in [1, 128, 16384] {
+        let octet = u32::from(*octets.get(next).ok_or(Fault::RanOut)?);
         next += 1;
-        // A last octet of 0 adds nothing: a shorter spelling exists.
-        if octet == 0 {
-            return Packed::Unreadable(Fault::NotShortest);
+        // A last octet of 0 after others adds nothing: a shorter spelling exists.
+        if octet == 0 && 1 < scale {
+            return Err(Fault::NotShortest);
         }
         if octet < 128 {
-            return Packed::Number(n + scale * octet, next);
+            return Ok(Packed {
+                number: number + scale * octet,
+                next,
+            });
         }
-        n += scale * (octet - 128);
-        scale *= 128;
-        left -= 1;
+        number += scale * (octet - 128);
     }
-    Packed::Unreadable(Fault::GoesOn)
+    Err(Fault::GoesOn)
 }
 
 // Writes a number of at most 2,097,151 in the fewest octets.
@@ -81,7 +63,7 @@ pub fn write_packed(out: &mut [u8], at: usize, n: u32) -> usize
     let mut to = at;
     while 128 <= rest {
         to = write_octet(out, to, (rest % 128 + 128) as u8);
-        rest = rest / 128;
+        rest /= 128;
     }
     write_octet(out, to, rest as u8)
 }

@@ -1,101 +1,68 @@
--- The invariant: what the octets from `next` on stand for, joined to what is read, is the answer.
-use mathlib.Core.Path.{◌≡◌, sym}
-use Prim.Native.Nat.{ℕ, suc, ◌+◌, ◌*◌, ◌-◌, ◌<◌, ◌≤◌}
-use native.Mathlib.Omega.{arith}
-use native.Mathlib.Nat.{pow-succ'}
-use borrow.Author.Tests.{eq-eqb, ne_eqb}
-use lib.ListN.{get_or}
-use Rattle.packed.specs.Packed.{packed_at, joined, number_in}
-use Rattle.packed.proofs.LawsPacked.{number_none, number_last, number_more, joined_joined, scale_room}
+-- What the octet at `next` is decides; what the ones after it stand for is joined to it.
+use Rattle.std.proofs.Common.{rules, suc, ◌≡◌, ◌+◌, ◌≤◌, length, ◌-◌, ◌<◌, get_or, arith, refl}
+use Rattle.packed.specs.Packed.{packed_at, number_in, joined}
+use Rattle.packed.proofs.LawsPacked.{number_none, number_last, number_more, read_none, read_last, read_more, scale_at, scale_more, scale_one, low_more}
+use Rattle.packed.proofs.read_packed.Goals.{else-octet-eq0-via-then-octet-eq0+else-scale-gt1, else-octet-eq0-via-else-octet-eq0}
 use Rattle.packed.proofs.read_packed.Goals as goal
-use Rattle.packed.proofs.read_packed.Goals.{After-shared_slice_known-in-loop-left-1}
 
-room : (c : After-shared_slice_known-in-loop-left-1) → (x : ℕ) → x < 128 → let w = c.loop-left in (w.n + w.scale * x < w.scale * 128) × (w.scale * 128 ≤ 2097152)
-room c =
-    λ x. let w = c.loop-left in scale_room w.left w.scale w.n x c.loop-left-test.true w.invariant.2 w.invariant.3
-
-pub returns-then-octets-at : goal.returns-then-octets-at
+pub loop-scale-init : goal.loop-scale-init
 unfolding packed_at
-returns-then-octets-at c =
-    let a = c.args in sym (number_none a.octets.now a.at 3 (omega arith) c.if-octets-at.true)
+loop-scale-init c = record { rest = refl; none_yet = λ z. refl; low = omega arith }
 
-pub overflow_cast-first : goal.overflow_cast-first
-overflow_cast-first c =
-    omega (arith, c.type_inv.octets c.args.at)
-
-pub returns-then-first-lt128 : goal.returns-then-first-lt128
-unfolding packed_at
-returns-then-first-lt128 c =
-    let a = c.args in sym (number_last a.octets.now a.at 3 (omega arith) (omega arith) c.if-first-lt128.true)
-
-pub loop-left-init : goal.loop-left-init
-unfolding packed_at
-loop-left-init c =
-    let a = c.args in (
-      sym (number_more a.octets.now a.at 3 (omega arith) (omega arith) (omega arith)),
-      omega arith,
-      omega arith,
-      omega (arith, c.type_inv.octets a.at),
-    )
-
-pub returns-then-octets-next : goal.returns-then-octets-next
-unfolding joined
-returns-then-octets-next c =
-    let a = c.args in
-    let w = c.loop-left in
-    rw (number_none a.octets.now w.next w.left (omega arith) c.if-octets-next.true) at w.invariant.0
-
-pub overflow_cast-octet : goal.overflow_cast-octet
-overflow_cast-octet c =
-    omega (arith, c.type_inv.octets c.loop-left.next)
-
-pub returns-then-octet-eq0 : goal.returns-then-octet-eq0
-unfolding joined
-returns-then-octet-eq0 c =
-    let w = c.loop-left in
+pub returns-in_err-ok_or : goal.returns-in_err-ok_or
+returns-in_err-ok_or c =
     let s = c.args.octets.now in
-    let octet = c.type_inv.octets w.next in
-    rw (number_last s w.next w.left (omega arith) (omega arith) (omega arith), eq-eqb (get_or s w.next 0) 0 (omega arith)) at w.invariant.0
+    let w = c.loop-scale in
+    let get = c.get.ensures.lookup in
+    let out : length s ≤ w.next = search rules in
+    let told = rw (number_none s w.next (3 - w.scale-index) (omega arith) out, read_none w.scale-index w.number _) at w.invariant.rest in
+    search rules
 
-pub overflow_mul-result : goal.overflow_mul-result
-overflow_mul-result c =
-    omega (arith, (room (goal.at.overflow_mul-result c).After-shared_slice_known-in-loop-left-1) _ c.if-octet-lt128.true)
-
-pub overflow_add-result : goal.overflow_add-result
-overflow_add-result c =
-    omega (arith, (room (goal.at.overflow_add-result c).After-shared_slice_known-in-loop-left-1) _ c.if-octet-lt128.true)
+pub returns-then-scale-gt1 : goal.returns-then-scale-gt1
+unfolding joined
+returns-then-scale-gt1 c =
+    let s = c.args.octets.now in
+    let w = c.loop-scale in
+    let there : w.next < length s = search rules in
+    let octet : c.from-octet.result ≡ get_or s w.next 0 = search rules in
+    let last : get_or s w.next 0 < 128 = omega arith in
+    let zero : get_or s w.next 0 ≡ 0 = omega arith in
+    let after = scale_more w.scale-index (rw (scale_at w.scale-index c.loop-scale-test.true) at c.if-scale-gt1.true) in
+    let index : w.scale-index ≡ suc (w.scale-index - 1) = omega arith in
+    rw (number_last s w.next (3 - w.scale-index) (omega arith) there last, zero, index) at w.invariant.rest
 
 pub returns-then-octet-lt128 : goal.returns-then-octet-lt128
-unfolding joined
 returns-then-octet-lt128 c =
-    let w = c.loop-left in
     let s = c.args.octets.now in
-    rw (number_last s w.next w.left (omega arith) (omega arith) (omega arith), ne_eqb (get_or s w.next 0) 0 c.if-octet-eq0.false) at w.invariant.0
+    let w = c.loop-scale in
+    let there : w.next < length s = search rules in
+    let octet : c.from-octet.result ≡ get_or s w.next 0 = search rules in
+    let last : get_or s w.next 0 < 128 = omega arith in
+    let scale = scale_at w.scale-index c.loop-scale-test.true in
+    let some : get_or s w.next 0 ≡ 0 → w.scale-index ≡ 0 = λ z. elim c.else-octet-eq0.branch [
+      | else-octet-eq0-via-then-octet-eq0+else-scale-gt1 b ↦ scale_one w.scale-index (rw scale at b.if-scale-gt1.false)
+      | else-octet-eq0-via-else-octet-eq0 b ↦ absurd (omega (arith, b.if-octet-eq0.false))
+    ] in
+    rw (number_last s w.next (3 - w.scale-index) (omega arith) there last, read_last w.scale-index w.number _ _ w.invariant.none_yet some, ← octet, ← scale) at w.invariant.rest
 
-pub overflow_mul-n : goal.overflow_mul-n
-overflow_mul-n c =
-    omega (arith, (room (goal.at.overflow_mul-n c).After-shared_slice_known-in-loop-left-1) _ (let h : get_or c.args.octets.now c.loop-left.next 0 - 128 < 128 = omega (arith, c.type_inv.octets c.loop-left.next) in h))
-
-pub overflow_add-n : goal.overflow_add-n
-overflow_add-n c =
-    omega (arith, (room (goal.at.overflow_add-n c).After-shared_slice_known-in-loop-left-1) _ (let h : get_or c.args.octets.now c.loop-left.next 0 - 128 < 128 = omega (arith, c.type_inv.octets c.loop-left.next) in h))
-
-pub overflow_mul-scale : goal.overflow_mul-scale
-overflow_mul-scale c =
-    omega (arith, (room (goal.at.overflow_mul-scale c).After-shared_slice_known-in-loop-left-1) _ (let h : get_or c.args.octets.now c.loop-left.next 0 - 128 < 128 = omega (arith, c.type_inv.octets c.loop-left.next) in h))
-
-pub loop-left-preserved : goal.loop-left-preserved
-loop-left-preserved c =
-    let w = c.loop-left in
+pub loop-scale-preserved : goal.loop-scale-preserved
+loop-scale-preserved c =
     let s = c.args.octets.now in
-    let up : 3 - (w.left - 1) ≡ suc (3 - w.left) = omega arith in (
-      rw (number_more s w.next w.left (omega arith) (omega arith) (omega arith), joined_joined) at w.invariant.0,
-      omega arith,
-      rw (up, pow-succ' 128 (3 - w.left)) (omega arith),
-      ((room (goal.at.loop-left-preserved c).After-shared_slice_known-in-loop-left-1) _ (let h : get_or c.args.octets.now c.loop-left.next 0 - 128 < 128 = omega (arith, c.type_inv.octets c.loop-left.next) in h)).0,
-    )
+    let w = c.loop-scale in
+    let there : w.next < length s = search rules in
+    let octet : c.from-octet.result ≡ get_or s w.next 0 = search rules in
+    let more : 128 ≤ get_or s w.next 0 = omega arith in
+    let scale = scale_at w.scale-index c.loop-scale-test.true in
+    let fewer : 3 - w.scale-index - 1 ≡ 3 - (w.scale-index + 1) = omega arith in
+    record {
+      rest = rw (number_more s w.next (3 - w.scale-index) (omega arith) there more, read_more w.scale-index w.number _ _ w.invariant.none_yet, ← octet, ← scale, fewer) at w.invariant.rest;
+      none_yet = λ z. absurd (omega arith);
+      low = rw scale (low_more w.scale-index w.number (c.from-octet.result - 128) w.invariant.low (omega (arith, c.type_inv.octets w.next)));
+    }
 
 pub returns : goal.returns
-unfolding joined number_in
+unfolding number_in joined
 returns c =
-    let none : c.loop-left.left ≡ 0 = omega arith in rw none at c.loop-left.invariant.0
+    let w = c.loop-scale in
+    let all : w.scale-index ≡ 3 = omega arith in
+    rw all at w.invariant.rest

@@ -1,5 +1,5 @@
 -- The invariant: what is left, put at the place reached, gives the whole.
-use mathlib.Core.Path.{refl, ap, ◌∙◌}
+use mathlib.Core.Path.{ap, ◌∙◌}
 use Prim.Native.Nat.{◌/◌}
 use native.Mathlib.Omega.{arith}
 use lib.ListN.{length}
@@ -7,10 +7,6 @@ use Rattle.octets.proofs.LawsWriting.{wrote_then}
 use Rattle.packed.specs.Packed.{packed}
 use Rattle.packed.proofs.LawsPacked.{packed_one, packed_next}
 use Rattle.packed.proofs.write_packed.Goals as goal
-
-pub loop-rest-init : goal.loop-rest-init
-loop-rest-init c =
-    (c.requires.0, refl, record { held = refl; end = refl })
 
 pub write_octet-to-requires : goal.write_octet-to-requires
 write_octet-to-requires c =
