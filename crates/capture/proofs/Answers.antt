@@ -27,7 +27,7 @@ module _ (log : List ℕ) (at : ℕ) where
   past_end h = rw (lt-ltb (length log) at h)
 
   -- the answer of what stands from the place on
-  by_front : {n : ℕ} → at ≤ length log → read_front (drop at log) ≡ no_record n → read_at log at ≡ no_record n
+  pub by_front : {n : ℕ} → at ≤ length log → read_front (drop at log) ≡ no_record n → read_at log at ≡ no_record n
   unfolding placed
   by_front h e = read_from_lem log at h ∙ ap (placed at) e
 

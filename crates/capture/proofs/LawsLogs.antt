@@ -4,8 +4,7 @@ use mathlib.Core.List.{List, [], ◌∷◌, ◌++◌, foldl-append}
 use Prim.Native.Nat.{ℕ, zero, suc, ◌+◌, ◌≤◌}
 use native.Mathlib.Omega.{arith}
 use lib.ListN.{length, drop, length-drop}
-use Rattle.capture.specs.declared.records.Record.{Record}
-use Rattle.capture.specs.Records.{Entry, Good}
+use Rattle.capture.specs.Records.{Entry, Good, Located}
 use Rattle.capture.specs.Reading.{Report, one, no_record, length_in, read_front}
 use Rattle.capture.specs.Logs.{AllGood, none, more, entry_of, Entries, ended, with_entry, entries_by, entries_within, entries_in, unwritten, write_next, write_all}
 use Rattle.capture.proofs.LawsReading.{front_end, FrontCase, nothing, found, front_case}
@@ -42,7 +41,7 @@ module _ (log : List ℕ) where
   unfolding entries_by
   entries_end e = entries_step log ∙ rw e
 
-  pub entries_next : {r : Record} → read_front log ≡ one r → entries_in log ≡ with_entry (entry_of log r) (entries_in (drop r.next log))
+  pub entries_next : {r : Located} → read_front log ≡ one r → entries_in log ≡ with_entry (entry_of log r) (entries_in (drop r.next log))
   unfolding entries_by
   entries_next e = entries_step log ∙ rw e
 

@@ -10,8 +10,7 @@ use lib.ListN.{length, take, drop, length-append, length-drop, get_or-append}
 use lib.Seq.{take-append-le, drop-append-le}
 use Rattle.octets.specs.LittleEndian.{le, le_at}
 use Rattle.octets.proofs.LawsTests.{chosen, impossible}
-use Rattle.capture.specs.declared.records.Record.{Record}
-use Rattle.capture.specs.Records.{head_size, is_in_range}
+use Rattle.capture.specs.Records.{head_size, is_in_range, Located}
 use Rattle.capture.specs.Reading.{Report, one, no_record, has_mark, direction_in, length_in, record_in, read_front, placed, read_at}
 
 module _ (xs : List ℕ) where
@@ -83,14 +82,14 @@ front_case xs =
     (λ _. nothing 21)))
 
 -- what is known where a record was found
-pub record Front (xs : List ℕ) (r : Record) : Type 0 where
+pub record Front (xs : List ℕ) (r : Located) : Type 0 where
   pub is : r ≡ record_in xs
   pub head : head_size ≤ length xs
   pub mark : has_mark xs ≡ true
   pub range : is_in_range (direction_in xs) (length_in xs) ≡ true
   pub inside : head_size + length_in xs ≤ length xs
 
-pub front_found : {xs : List ℕ} {r : Record} → read_front xs ≡ one r → Front xs r
+pub front_found : {xs : List ℕ} {r : Located} → read_front xs ≡ one r → Front xs r
 front_found {xs} {r} e = by_case (front_case xs) e
   where
     by_case : {q : Report} → FrontCase xs q → q ≡ one r → Front xs r
@@ -98,7 +97,7 @@ front_found {xs} {r} e = by_case (front_case xs) e
     by_case (found h m g l) e = record { is = cc (ap (λ p. p.found) e); head = h; mark = m; range = g; inside = l }
 
 -- a record at the front is there whatever stands behind it
-pub front_then : {xs : List ℕ} {r : Record} (ys : List ℕ) → Front xs r → Front (xs ++ ys) r
+pub front_then : {xs : List ℕ} {r : Located} (ys : List ℕ) → Front xs r → Front (xs ++ ys) r
 front_then {xs} ys f =
     let direction = direction_then xs ys f.head in
     let len = length_then xs ys f.head in
@@ -110,5 +109,5 @@ front_then {xs} ys f =
       inside = omega (arith, f.inside, len, length-append xs ys);
     }
 
-pub front_is : {xs : List ℕ} {r : Record} → Front xs r → read_front xs ≡ one r
+pub front_is : {xs : List ℕ} {r : Located} → Front xs r → read_front xs ≡ one r
 front_is {xs} f = front_whole xs f.head f.mark f.range f.inside ∙ sym (ap one f.is)

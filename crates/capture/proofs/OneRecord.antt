@@ -15,8 +15,7 @@ use Rattle.octets.specs.LittleEndian.{le, le_at, le_octets}
 use Rattle.octets.proofs.LawsLists.{octets_drop, octets_take}
 use Rattle.octets.proofs.LawsTests.{by_test, both_told, impossible}
 use Rattle.octets.proofs.LittleEndianRoundTrip.{octets_back}
-use Rattle.capture.specs.declared.records.Record.{Record}
-use Rattle.capture.specs.Records.{entry, record_of, Good}
+use Rattle.capture.specs.Records.{entry, record_of, Good, Located}
 use Rattle.capture.specs.Reading.{Report, one, has_mark, direction_in, length_in, record_in, read_front, shifted, placed, read_at}
 use Rattle.capture.specs.Logs.{entry_of}
 use Rattle.capture.proofs.LawsRecords.{range_good}
@@ -31,7 +30,7 @@ head_octets (x ∷ []) h = absurd (omega arith)
 head_octets (x ∷ y ∷ []) h = absurd (omega arith)
 head_octets (x ∷ y ∷ z ∷ xs) h = refl
 
-module _ (xs : List ℕ) {r : Record} (f : Front xs r) where
+module _ (xs : List ℕ) {r : Located} (f : Front xs r) where
   body_length : length (take (length_in xs) (drop 5 xs)) ≡ length_in xs
   body_length = length-take-le (length_in xs) (drop 5 xs) (omega (arith, f.inside, length-drop 5 xs))
 
@@ -57,7 +56,7 @@ module _ (xs : List ℕ) {r : Record} (f : Front xs r) where
 
 -- ---- at a place
 
-shifted_none : (rs : List Record) → map (shifted 0) rs ≡ rs
+shifted_none : (rs : List Located) → map (shifted 0) rs ≡ rs
 shifted_none [] = refl
 shifted_none (r ∷ rs) =
     ap₂ ◌∷◌ (λ i. record { direction = r.direction; start = zero-add r.start i; len = r.len; next = zero-add r.next i }) (shifted_none rs)
@@ -71,7 +70,7 @@ pub from_place : (log : List ℕ) (at : ℕ) → at ≤ length log → read_at l
 from_place log at h = read_from_lem log at h ∙ sym (ap (placed at) (at_front (drop at log)))
 
 -- what a reading of a record tells of the octets from the place on
-pub record Spelled (log : List ℕ) (at : ℕ) (r : Record) : Type 0 where
+pub record Spelled (log : List ℕ) (at : ℕ) (r : Located) : Type 0 where
   pub start : r.start ≡ at + 5
   pub next : r.next ≡ r.start + r.len
   pub inside : r.next ≤ length log
@@ -81,7 +80,7 @@ pub record Spelled (log : List ℕ) (at : ℕ) (r : Record) : Type 0 where
 
 module _ (log : List ℕ) (at : ℕ) where
   -- a record at a place is one at the front of what stands from there on
-  pub front_at : {r : Record} → read_at log at ≡ one r
+  pub front_at : {r : Located} → read_at log at ≡ one r
       → (at ≤ length log) × Front (drop at log) (record_in (drop at log)) × (r ≡ shifted at (record_in (drop at log)))
   unfolding read_at placed
   front_at {r} e =
@@ -94,7 +93,7 @@ module _ (log : List ℕ) (at : ℕ) where
       by_case (nothing n) p = impossible (cc (ap (λ q. q.found) p))
       by_case (found h m g l) p = (record { is = refl; head = h; mark = m; range = g; inside = l }, cc (ap (λ q. q.found) p))
 
-  pub one_record : {r : Record} → Octets log → read_at log at ≡ one r → Spelled log at r
+  pub one_record : {r : Located} → Octets log → read_at log at ≡ one r → Spelled log at r
   unfolding entry_of
   one_record {r} o e =
       let f = front_at e in
@@ -116,7 +115,7 @@ module _ (log : List ℕ) (at : ℕ) where
       })
 
 -- what stands behind a record changes nothing in it
-pub record_then : (log more : List ℕ) (at : ℕ) {r : Record} → read_at log at ≡ one r
+pub record_then : (log more : List ℕ) (at : ℕ) {r : Located} → read_at log at ≡ one r
     → (read_at (log ++ more) at ≡ one r) × (entry_of (log ++ more) r ≡ entry_of log r)
 unfolding entry_of placed
 record_then log more at e =

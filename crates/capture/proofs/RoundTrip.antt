@@ -9,8 +9,7 @@ use Rattle.octets.specs.Runs.{each}
 use Rattle.octets.specs.LittleEndian.{le_octets}
 use Rattle.octets.proofs.LawsLittleEndian.{length_le}
 use Rattle.octets.proofs.LawsWriting.{sets_append, sets_front}
-use Rattle.capture.specs.declared.records.Record.{Record}
-use Rattle.capture.specs.Records.{Entry, record_of, Good}
+use Rattle.capture.specs.Records.{Entry, record_of, Good, Located}
 use Rattle.capture.specs.Reading.{one, has_mark, length_in, read_front, placed, read_at}
 use Rattle.capture.specs.Writing.{Report, put}
 use Rattle.capture.specs.Logs.{log_of, AllGood, none, more, entry_of, with_entry, entries_in, unwritten, write_next, numbers_from, write_all}
@@ -22,7 +21,7 @@ use Rattle.capture.proofs.LawsLogs.{entries_end, entries_next}
 -- ---- one record, whatever stands behind it
 
 -- where its parts stand, counted from its first octet
-abbrev parts : Entry → Record
+abbrev parts : Entry → Located
 parts e = record { direction = e.direction; start = 5; len = length e.body; next = 5 + length e.body }
 
 module _ (e : Entry) (rest : List ℕ) (g : Good e) where
@@ -48,7 +47,7 @@ module _ (e : Entry) (rest : List ℕ) (g : Good e) where
   rest_back = drop_at (record_of e) rest _ (record_length e)
 
 -- the same from a place on
-abbrev pub standing : ℕ → Entry → Record
+abbrev pub standing : ℕ → Entry → Located
 standing at e = record { direction = e.direction; start = at + 5; len = length e.body; next = at + (5 + length e.body) }
 
 -- so wherever it stands in a log: the record is found there, and holds what was written

@@ -9,8 +9,7 @@ use lib.Seq.{drop-drop}
 use Rattle.octets.specs.Octets.{Octets}
 use Rattle.octets.proofs.LawsLists.{octets_drop}
 use Rattle.octets.proofs.LawsTests.{impossible}
-use Rattle.capture.specs.declared.records.Record.{Record}
-use Rattle.capture.specs.Records.{record_of}
+use Rattle.capture.specs.Records.{record_of, Located}
 use Rattle.capture.specs.Reading.{Report, one, no_record, length_in, record_in, read_front, placed, read_at}
 use Rattle.capture.specs.Logs.{log_of, AllGood, none, more, entry_of, Entries, with_entry, ended, entries_in}
 use Rattle.capture.proofs.LawsReading.{FrontCase, nothing, found, front_case, Front, read_from_lem, front_is}
@@ -20,7 +19,7 @@ use Rattle.capture.proofs.OneRecord.{front_octets, front_good, at_front, front_a
 -- ---- call by call
 
 module _ (log : List ℕ) (at : ℕ) where
-  pub call_next : {r : Record} → read_at log at ≡ one r → entries_in (drop at log) ≡ with_entry (entry_of log r) (entries_in (drop r.next log))
+  pub call_next : {r : Located} → read_at log at ≡ one r → entries_in (drop at log) ≡ with_entry (entry_of log r) (entries_in (drop r.next log))
   unfolding entry_of
   call_next e =
       let f = front_at log at e in

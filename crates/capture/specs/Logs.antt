@@ -2,8 +2,7 @@
 use mathlib.Core.List.{List, [], ◌∷◌, foldl}
 use Rattle.std.specs.Prelude.{ℕ, zero, suc, length, take, drop}
 use Rattle.octets.specs.Runs.{each, emitted}
-use Rattle.capture.specs.declared.records.Record.{Record}
-use Rattle.capture.specs.Records.{Entry, record_of, Good}
+use Rattle.capture.specs.Records.{Entry, record_of, Located, Good}
 use Rattle.capture.specs.Reading.{read_front}
 use Rattle.capture.specs.Writing.{writing}
 use Rattle.capture.specs.Writing as writing
@@ -18,7 +17,7 @@ pub data AllGood : List Entry → Type 0 where
 -- ---- a log read from its front
 
 -- what a record of a log holds
-unfoldable pub entry_of : List ℕ → Record → Entry
+unfoldable pub entry_of : List ℕ → Located → Entry
 entry_of log r = record { direction = r.direction; body = take r.len (drop r.start log) }
 
 -- the records up to the first fault, and its number: 21, 22 or 23, or 0 where there is none
@@ -33,7 +32,7 @@ abbrev pub with_entry : Entry → Entries → Entries
 with_entry e r = record { entries = e ∷ r.entries; fault = r.fault }
 
 -- by what is answered at the front: nothing more where there is no record, else what the record holds, and the rest from its next place on
-unfoldable pub entries_by : List ℕ → List Record → ℕ → (ℕ → Entries) → Entries
+unfoldable pub entries_by : List ℕ → List Located → ℕ → (ℕ → Entries) → Entries
 entries_by log [] number rest = ended number
 entries_by log (r ∷ rs) number rest = with_entry (entry_of log r) (rest r.next)
 

@@ -1,29 +1,33 @@
 -- Reading the record at a place of a log (02, T-05).
-use Rattle.std.specs.Prelude.{Bool, cond, ◌&&◌, List, [], ◌∷◌, map, ℕ, ◌+◌, eqb, ltb, length, get_or, drop}
+use Rattle.std.specs.Prelude.{Bool, cond, Option, Some, None, Result, Ok, Err, ◌&&◌, List, [], ◌∷◌, map, ℕ, ◌+◌, eqb, ltb, length, get_or, drop}
 use Rattle.octets.specs.LittleEndian.{le_at}
 use Rattle.capture.specs.declared.records.Record.{Record}
-use Rattle.capture.specs.declared.reading.Found.{Found}
-use Rattle.capture.specs.declared.reading.Found.TheVariants.{At, NoMore, BadMark, CutOff, OutOfRange}
-use Rattle.capture.specs.Records.{head_size, is_in_range}
+use Rattle.capture.specs.declared.reading.ReadError.{ReadError}
+use Rattle.capture.specs.declared.reading.ReadError.TheVariants.{BadMark, CutOff, OutOfRange}
+use Rattle.capture.specs.Records.{head_size, Located, located, is_in_range}
 
 -- ---- an answer by 02's numbers: that of a refusal, else 0; and the record that was found, or none
 
 pub record Report : Type 0 where
   pub number : ℕ
-  pub found : List Record
+  pub found : List Located
 
-abbrev pub one : Record → Report
+abbrev pub one : Located → Report
 one r = record { number = 0; found = r ∷ [] }
 
 abbrev pub no_record : ℕ → Report
 no_record n = record { number = n; found = [] }
 
-abbrev pub reported : Found → Report
-reported (At r) = one r
-reported NoMore = no_record 0
-reported BadMark = no_record 21
-reported CutOff = no_record 22
-reported OutOfRange = no_record 23
+-- 02's number of a refusal
+abbrev pub number_of : ReadError → ℕ
+number_of BadMark = 21
+number_of CutOff = 22
+number_of OutOfRange = 23
+
+abbrev pub reported : Result (Option Record) ReadError → Report
+reported (Ok (Some r)) = one (located r)
+reported (Ok None) = no_record 0
+reported (Err e) = no_record (number_of e)
 
 -- ---- the record at the front of octets
 
@@ -37,7 +41,7 @@ direction_in xs = get_or xs 2 0
 abbrev pub length_in : List ℕ → ℕ
 length_in xs = le_at xs 3 2
 
-abbrev pub record_in : List ℕ → Record
+abbrev pub record_in : List ℕ → Located
 record_in xs = record { direction = direction_in xs; start = head_size; len = length_in xs; next = head_size + length_in xs }
 
 -- "order 22, 21, 23 when reading"; "Cut off means fewer than five octets left or, where mark, direction and length are good, fewer than the
@@ -54,7 +58,7 @@ read_front xs =
 
 -- ---- at a place, from which places are counted on
 
-abbrev pub shifted : ℕ → Record → Record
+abbrev pub shifted : ℕ → Located → Located
 shifted n r = record { direction = r.direction; start = n + r.start; len = r.len; next = n + r.next }
 
 unfoldable pub placed : ℕ → Report → Report

@@ -4,6 +4,9 @@ use Rattle.std.specs.Prelude.{Bool, ◌&&◌, List, ◌∷◌, ◌++◌, ℕ, �
 use Rattle.octets.specs.Body.{min_body, max_body}
 use Rattle.octets.specs.LittleEndian.{le_octets}
 use Rattle.octets.specs.Ranges.{is_between}
+use Rattle.capture.specs.declared.records.Direction.{Direction}
+use Rattle.capture.specs.declared.records.Direction.TheVariants.{ToBox, FromBox}
+use Rattle.capture.specs.declared.records.Record.{Record}
 
 -- what a record holds
 pub record Entry : Type 0 where
@@ -19,12 +22,27 @@ to_box = 0
 abbrev pub from_box : ℕ
 from_box = 1
 
+-- the octet of the code's direction
+abbrev pub octet_of : Direction → ℕ
+octet_of ToBox = to_box
+octet_of FromBox = from_box
+
 unfoldable pub record_of : Entry → List ℕ
 record_of e = 0x53 ∷ 0x50 ∷ e.direction ∷ le_octets 2 (length e.body) ++ e.body
 
 -- how many octets stand before the body
 abbrev pub head_size : ℕ
 head_size = 5
+
+-- a record where it stands in a log, its direction by 02's number: where its body starts, how many octets that has, and the place after it
+pub record Located : Type 0 where
+  pub direction : ℕ
+  pub start : ℕ
+  pub len : ℕ
+  pub next : ℕ
+
+abbrev pub located : Record → Located
+located r = record { direction = octet_of r.direction; start = r.start; len = r.len; next = r.next }
 
 -- a direction, and how many octets a body has
 unfoldable pub is_in_range : ℕ → ℕ → Bool

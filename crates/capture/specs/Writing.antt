@@ -1,21 +1,14 @@
 -- Writing a record into lent space (02, T-05).
-use Rattle.std.specs.Prelude.{cond, List, ℕ, ◌+◌, ltb, length}
+use Rattle.std.specs.Prelude.{cond, Result, Ok, Err, List, ℕ, ◌+◌, ltb, length}
 use Rattle.std.proofs.lemmas.List.Edits.{sets}
-use Rattle.capture.specs.declared.writing.Written.{Written}
-use Rattle.capture.specs.declared.writing.Written.TheVariants.{Next, OutOfRange, NoRoom}
+use Rattle.capture.specs.declared.writing.WriteError.{WriteError}
+use Rattle.capture.specs.declared.writing.WriteError.TheVariants.{OutOfRange, NoRoom}
 use Rattle.capture.specs.Records.{entry, record_of, is_in_range}
 
--- 02's number of an answer: that of a refusal, else 0
-abbrev pub number_of : Written → ℕ
-number_of (Next n) = 0
+-- 02's number of a refusal
+abbrev pub number_of : WriteError → ℕ
 number_of OutOfRange = 23
 number_of NoRoom = 24
-
--- the place after the record; refusals "return zero for every count" (01, Octets on the wire)
-abbrev pub next_of : Written → ℕ
-next_of (Next n) = n
-next_of OutOfRange = 0
-next_of NoRoom = 0
 
 -- what a call tells, and every octet of the space that it was lent
 pub record Report : Type 0 where
@@ -23,11 +16,13 @@ pub record Report : Type 0 where
   pub next : ℕ
   pub space : List ℕ
 
-abbrev pub reported : Written → List ℕ → Report
-reported w space = record { number = number_of w; next = next_of w; space = space }
-
+-- refusals "return zero for every count" (01, Octets on the wire)
 abbrev pub refused : ℕ → List ℕ → Report
 refused n space = record { number = n; next = 0; space = space }
+
+abbrev pub reported : Result ℕ WriteError → List ℕ → Report
+reported (Ok next) space = record { number = 0; next = next; space = space }
+reported (Err e) space = refused (number_of e) space
 
 -- the record from a place on; every other octet stays
 unfoldable pub put : List ℕ → ℕ → List ℕ → Report

@@ -5,6 +5,6 @@ mod reading;
 mod records;
 mod writing;
 
-pub use reading::{Found, read_record};
-pub use records::Record;
-pub use writing::{Written, write_record};
+pub use reading::{ReadError, read_record};
+pub use records::{Direction, Record};
+pub use writing::{WriteError, write_record};

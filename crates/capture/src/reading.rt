@@ -1,16 +1,12 @@
 // Reading the record at a place of a log.
 ghost use Rattle.std.specs.Prelude.{◌≡◌};
-ghost use Rattle.capture.specs.Reading.{reported, read_at};
+ghost use Rattle.capture.specs.Reading.{number_of, reported, read_at};
 
-use crate::records::{MARK, Record, is_in_range};
-use octets::read_le;
+use crate::records::{MARK, Record, in_range};
 
-// What stands at a place of a log.
-#[derive(Clone, Copy)]
-pub enum Found {
-    At(Record),
-    // The log ends here.
-    NoMore,
+// What is wrong at a place of a log.
+#[derive(Clone, Copy, PartialEq, Eq)]
+pub enum ReadError {
     // 21: another mark than 53 50.
     BadMark,
     // 22: a place past the end, under five octets, or fewer than the length says.
@@ -19,55 +15,43 @@ pub enum Found {
     OutOfRange,
 }
 
-impl Found {
-    // 02's number of a refusal; 0 for a record, and where there are no more.
+impl ReadError {
+    // 02's number of a refusal.
     pub fn number(self) -> u32
-        ensures { result ≡ (reported self).number }
+        ensures { result ≡ number_of self }
     {
         match self {
-            Found::At(_) => 0,
-            Found::NoMore => 0,
-            Found::BadMark => 21,
-            Found::CutOff => 22,
-            Found::OutOfRange => 23,
+            ReadError::BadMark => 21,
+            ReadError::CutOff => 22,
+            ReadError::OutOfRange => 23,
         }
     }
 }
 
-// Takes any octets and any place.
-pub fn read_record(log: &[u8], at: usize) -> Found
+// Takes any octets and any place. None where the log ends there.
+pub fn read_record(log: &[u8], at: usize) -> Result<Option<Record>, ReadError>
     ensures { reported result ≡ read_at log.now at }
 {
-    if log.len() < at {
-        return Found::CutOff;
+    let rest = log.get(at..).ok_or(ReadError::CutOff)?;
+    if rest.is_empty() {
+        return Ok(None);
     }
-    let left = log.len() - at;
-    if left == 0 {
-        return Found::NoMore;
+    let [first, second, direction, low, high, body @ ..] = rest else {
+        return Err(ReadError::CutOff);
+    };
+    if [*first, *second] != MARK {
+        return Err(ReadError::BadMark);
     }
-    if left < Record::HEAD_SIZE {
-        return Found::CutOff;
+    let len = usize::from(u16::from_le_bytes([*low, *high]));
+    let direction = in_range(*direction, len).ok_or(ReadError::OutOfRange)?;
+    if body.len() < len {
+        return Err(ReadError::CutOff);
     }
-    let mark = MARK;
-    if log[at] != mark[0] {
-        return Found::BadMark;
-    }
-    if log[at + 1] != mark[1] {
-        return Found::BadMark;
-    }
-    let direction = log[at + 2];
-    let len = read_le(log, at + 3, 2) as usize;
-    if is_in_range(direction, len) {
-        if left - Record::HEAD_SIZE < len {
-            return Found::CutOff;
-        }
-        let start = at + Record::HEAD_SIZE;
-        return Found::At(Record {
-            direction,
-            start,
-            len,
-            next: start + len,
-        });
-    }
-    Found::OutOfRange
+    let start = at + Record::HEAD_SIZE;
+    Ok(Some(Record {
+        direction,
+        start,
+        len,
+        next: start + len,
+    }))
 }

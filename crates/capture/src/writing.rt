@@ -2,41 +2,27 @@
 ghost use Rattle.std.specs.Prelude.{true, ◌≡◌, ◌+◌, ◌≤◌, length};
 ghost use Rattle.octets.specs.Writing.{Wrote};
 ghost use Rattle.capture.specs.Records.{entry, record_of, is_in_range};
-ghost use Rattle.capture.specs.Writing.{number_of, next_of, reported, writing};
+ghost use Rattle.capture.specs.Writing.{number_of, reported, writing};
 
-use crate::records::{MARK, Record, is_in_range};
+use crate::records::{MARK, Record, in_range};
 use octets::{write_le, write_octet, write_octets};
 
-#[derive(Clone, Copy)]
-pub enum Written {
-    // The place after the record.
-    Next(usize),
+#[derive(Clone, Copy, PartialEq, Eq)]
+pub enum WriteError {
     // 23: a direction that is not 0 or 1, or a body that has not 2 to 1,300 octets.
     OutOfRange,
     // 24: the record does not fit between the place and the end of the space.
     NoRoom,
 }
 
-impl Written {
-    // 02's number of a refusal, else 0.
+impl WriteError {
+    // 02's number of a refusal.
     pub fn number(self) -> u32
         ensures { result ≡ number_of self }
     {
         match self {
-            Written::Next(_) => 0,
-            Written::OutOfRange => 23,
-            Written::NoRoom => 24,
-        }
-    }
-
-    // The place after the record; 0 in a refusal.
-    pub fn next(self) -> usize
-        ensures { result ≡ next_of self }
-    {
-        match self {
-            Written::Next(at) => at,
-            Written::OutOfRange => 0,
-            Written::NoRoom => 0,
+            WriteError::OutOfRange => 23,
+            WriteError::NoRoom => 24,
         }
     }
 }
@@ -53,18 +39,20 @@ fn put_record(space: &mut [u8], at: usize, direction: u8, body: &[u8]) -> usize
     write_octets(space, at_body, body)
 }
 
-// Takes any space, any place, any direction and any body.
-pub fn write_record(space: &mut [u8], at: usize, direction: u8, body: &[u8]) -> Written
+// Takes any space, any place, any direction and any body. Returns the place after the record.
+pub fn write_record(
+    space: &mut [u8],
+    at: usize,
+    direction: u8,
+    body: &[u8],
+) -> Result<usize, WriteError>
     ensures { reported result space.new ≡ writing space.old at direction body.now }
 {
-    if is_in_range(direction, body.len()) {
-        if space.len() < at {
-            return Written::NoRoom;
-        }
-        if space.len() - at < Record::HEAD_SIZE + body.len() {
-            return Written::NoRoom;
-        }
-        return Written::Next(put_record(space, at, direction, body));
+    if in_range(direction, body.len()).is_none() {
+        return Err(WriteError::OutOfRange);
     }
-    Written::OutOfRange
+    if space.len().saturating_sub(at) < Record::HEAD_SIZE + body.len() {
+        return Err(WriteError::NoRoom);
+    }
+    Ok(put_record(space, at, direction, body))
 }
