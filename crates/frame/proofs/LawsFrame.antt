@@ -1,7 +1,7 @@
 -- Laws of written frames: octets as they are sent, one by one, and a frame in the order in which it is written.
-use types.Run.{OneOf, miss}
-use denote.Enum.Declared.{tag_of}
-use mathlib.Core.Path.{◌≡◌, sym, ap, ◌∙◌}
+use denote.Enum.Bare.{sameb}
+use mathlib.Core.Bool.{true, false}
+use mathlib.Core.Path.{◌≡◌, ap, ◌∙◌}
 use mathlib.Core.List.{List, [], ◌∷◌, ◌++◌, append_assoc}
 use Prim.Native.Nat.{ℕ, ◌+◌, ◌<◌, ◌≤◌}
 use native.Mathlib.Omega.{arith}
@@ -19,22 +19,22 @@ use Rattle.frame.specs.Kind.{kind_of}
 use Rattle.frame.specs.Fcs.{fcs}
 use Rattle.frame.specs.Frame.{sent, stuffed, with_check, frame, written, writing}
 use Rattle.frame.specs.contracts.kind.OctetKind.{the_type as kind-type}
-use Rattle.frame.proofs.LawsKinds.{Tests, flags, escapes, skips, kind_tests}
+use Rattle.frame.proofs.LawsKinds.{kind_tests}
 
-pub sent_plain : {k : OctetKind} (b : ℕ) → k ≡ kind_of b → k ≡ Plain → sent b ≡ b ∷ []
+-- the test for a plain octet goes by the kind, and the form in which the octet is sent does too
+pub sent_plain : (k : OctetKind) (b : ℕ) → k ≡ kind_of b → sameb kind-type k Plain ≡ true → sent b ≡ b ∷ []
 unfolding sent
-sent_plain b e p = let t = kind_tests b (sym p ∙ e) in simp (t.flag, t.escape, t.skipped)
+sent_plain Flag b e h = absurd cc
+sent_plain Escape b e h = absurd cc
+sent_plain Skipped b e h = absurd cc
+sent_plain Plain b e h = let t = kind_tests b e in simp (t.flag, t.escape, t.skipped)
 
--- the `else` of an `if let` tells that the tag is one of the others
-pub sent_escaped : {k : OctetKind} (b : ℕ) → k ≡ kind_of b → OneOf (0 ∷ 1 ∷ 2 ∷ []) (tag_of kind-type k) → sent b ≡ 0x7d ∷ bit_xor b 0x20 ∷ []
+pub sent_escaped : (k : OctetKind) (b : ℕ) → k ≡ kind_of b → sameb kind-type k Plain ≡ false → sent b ≡ 0x7d ∷ bit_xor b 0x20 ∷ []
 unfolding sent
-sent_escaped {k} b e o = by_kind k (kind_tests b e) o
-  where
-    by_kind : (k : OctetKind) → Tests b (flags k) (escapes k) (skips k) → OneOf (0 ∷ 1 ∷ 2 ∷ []) (tag_of kind-type k) → sent b ≡ 0x7d ∷ bit_xor b 0x20 ∷ []
-    by_kind Flag t o = simp t.flag
-    by_kind Escape t o = simp (t.flag, t.escape)
-    by_kind Skipped t o = simp (t.flag, t.escape, t.skipped)
-    by_kind Plain t o = absurd (miss (0 ∷ 1 ∷ 2 ∷ []) 3 tt o)
+sent_escaped Flag b e h = let t = kind_tests b e in simp t.flag
+sent_escaped Escape b e h = let t = kind_tests b e in simp (t.flag, t.escape)
+sent_escaped Skipped b e h = let t = kind_tests b e in simp (t.flag, t.escape, t.skipped)
+sent_escaped Plain b e h = absurd cc
 
 stuffed_append : (xs ys : List ℕ) → stuffed (xs ++ ys) ≡ stuffed xs ++ stuffed ys
 unfolding stuffed

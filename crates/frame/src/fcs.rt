@@ -9,8 +9,8 @@ fn fcs_octet(register: u16, octet: u8, table: &[u16; 256]) -> u16
     requires { table.now ≡ fcs_table }
     ensures { result ≡ fcs_octet register octet }
 {
-    let x = register ^ (octet as u16);
-    (x / 256) ^ table[(x % 256) as usize]
+    let x = register ^ u16::from(octet);
+    (x / 256) ^ table[usize::from(x % 256)]
 }
 
 // The check that is sent after the octets of a body.
@@ -20,10 +20,8 @@ pub fn fcs16(body: &[u8]) -> u16
     // A constant array is copied wherever it is named, so it is named once and lent.
     let table = FCS_TABLE;
     let mut r: u16 = 0xffff;
-    let mut i: usize = 0;
-    while i < body.len() {
-        r = fcs_octet(r, body[i], &table);
-        i += 1;
+    for octet in body {
+        r = fcs_octet(r, *octet, &table);
     }
     r ^ 0xffff
 }

@@ -5,7 +5,7 @@ ghost use Rattle.octets.specs.Writing.{Wrote};
 ghost use Rattle.frame.specs.Frame.{sent, stuffed, frame, written, writing};
 
 use crate::fcs::fcs16;
-use crate::kind::{OctetKind, kind_of};
+use crate::kind::OctetKind;
 use octets::{write_le, write_octet};
 
 // One octet, escaped where it must be.
@@ -13,8 +13,7 @@ fn write_escaped(out: &mut [u8], at: usize, octet: u8) -> usize
     requires { at + length (sent octet) ≤ length out.old }
     ensures { Wrote out.old out.new at result (sent octet) }
 {
-    let kind = kind_of(octet);
-    if let OctetKind::Plain = kind {
+    if OctetKind::from(octet) == OctetKind::Plain {
         return write_octet(out, at, octet);
     }
     let next = write_octet(out, at, 0x7d);
@@ -26,11 +25,9 @@ fn write_stuffed(out: &mut [u8], at: usize, octets: &[u8]) -> usize
     requires { at + length (stuffed octets.now) ≤ length out.old }
     ensures { Wrote out.old out.new at result (stuffed octets.now) }
 {
-    let mut i: usize = 0;
     let mut next = at;
-    while i < octets.len() {
-        next = write_escaped(out, next, octets[i]);
-        i += 1;
+    for octet in octets {
+        next = write_escaped(out, next, *octet);
     }
     next
 }
@@ -41,7 +38,7 @@ pub fn write_frame(body: &[u8], out: &mut [u8]) -> usize
     ensures { written result out.new ≡ writing body.now out.old }
 {
     let mut check = [0u8; 2];
-    write_le(&mut check, 0, fcs16(body) as u32, 2);
+    write_le(&mut check, 0, u32::from(fcs16(body)), 2);
     let at_body = write_octet(out, 0, 0x7e);
     let at_check = write_stuffed(out, at_body, body);
     let at_flag = write_stuffed(out, at_check, &check);

@@ -8,4 +8,4 @@ mod kind;
 
 pub use fcs::fcs16;
 pub use frame::write_frame;
-pub use kind::{OctetKind, kind_of};
+pub use kind::OctetKind;

@@ -9,24 +9,18 @@ use Rattle.frame.specs.Fcs.{fcs_bit, fcs_bits, fcs_entries, fcs_table, fcs_from,
 use Rattle.frame.proofs.LawsFcs.{from_next, from_done}
 use Rattle.frame.proofs.fcs.fcs16.Goals as goal
 
-pub loop-i-init : goal.loop-i-init
-loop-i-init c =
-    (omega arith, refl)
-
 pub fcs_octet-r-requires : goal.fcs_octet-r-requires
 unfolding fcs_table fcs_entries fcs_bits fcs_bit
 fcs_octet-r-requires c =
     refl
 
-pub loop-i-preserved : goal.loop-i-preserved
-loop-i-preserved c =
-    let w = c.loop-i in
-    let body = c.args.body.now in (
-      omega arith,
-      ap (λ r. fcs_from r (drop (w.i + 1) body)) c.fcs_octet-r.ensures ∙ sym (from_next w.r body w.i (omega arith)) ∙ w.invariant.1,
-    )
+pub loop-octet-preserved : goal.loop-octet-preserved
+loop-octet-preserved c =
+    let w = c.loop-octet in
+    let body = c.args.body.now in
+    ap (λ r. fcs_from r (drop (w.octet-index + 1) body)) c.fcs_octet-r.ensures ∙ sym (from_next w.r body w.octet-index (omega arith)) ∙ w.invariant
 
 pub returns : goal.returns
 unfolding fcs
 returns c =
-    ap (λ r. bit_xor r 0xffff) (sym (from_done _ _ _ c.loop-i-test.false) ∙ c.loop-i.invariant.1)
+    ap (λ r. bit_xor r 0xffff) (sym (from_done _ _ c.loop-octet.octet-index (omega arith)) ∙ c.loop-octet.invariant)

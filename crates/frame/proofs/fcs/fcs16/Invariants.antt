@@ -1,15 +1,10 @@
 -- The invariant: the register after what is left is the register after the whole. The constant is the table: all of its 256 entries are
 -- computed, once, where it is lent.
 use mathlib.Core.Path.{◌≡◌}
-use Prim.Native.Nat.{◌-◌, ◌≤◌}
-use lib.ListN.{length, drop}
+use lib.ListN.{drop}
 use Rattle.frame.specs.Fcs.{fcs_from}
 use Rattle.frame.proofs.fcs.fcs16.Given as goal
 
-abbrev pub invariant-loop-i : goal.invariant-loop-i
-invariant-loop-i l =
-    (l.i ≤ length l.body) × (fcs_from l.r (drop l.i l.body) ≡ fcs_from l.initial.r l.body)
-
-abbrev pub decreases-loop-i : goal.decreases-loop-i
-decreases-loop-i l =
-    length l.body - l.i
+abbrev pub invariant-loop-octet : goal.invariant-loop-octet
+invariant-loop-octet l =
+    fcs_from l.r (drop l.octet-index l.body) ≡ fcs_from l.initial.r l.body

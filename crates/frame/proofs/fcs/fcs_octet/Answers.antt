@@ -4,4 +4,4 @@ use Rattle.frame.proofs.fcs.fcs_octet.Goals as goal
 
 pub returns : goal.returns
 returns c =
-    rw c.requires (one_lookup _ _)
+    rw (c.requires, c.from-2.ensures, c.from.ensures) (one_lookup _ _)

@@ -11,7 +11,7 @@ use Rattle.frame.proofs.frame.write_frame.Goals.{After-write_le}
 check : (c : After-write_le) → c.write_le.new.out ≡ le_octets 2 (fcs c.args.body.now)
 unfolding le_octets
 check c =
-    c.write_le.ensures.held ∙ ap (λ n. le_octets 2 n) c.fcs16.ensures
+    c.write_le.ensures.held ∙ ap (λ n. le_octets 2 n) (c.from.ensures ∙ c.fcs16.ensures)
 
 pub write_octet-at_body-requires : goal.write_octet-at_body-requires
 write_octet-at_body-requires c =
