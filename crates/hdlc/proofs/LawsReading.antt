@@ -1,6 +1,6 @@
 -- Laws of reading: a call's outcome octet by octet, as the code's loop goes.
 use mathlib.Core.Bool.{true, false}
-use mathlib.Core.Path.{◌≡◌, sym, ap, ◌∙◌}
+use mathlib.Core.Path.{◌≡◌, refl, sym, ap, ◌∙◌}
 use mathlib.Core.List.{List, [], ◌∷◌}
 use Prim.Native.Nat.{ℕ, ◌+◌, ◌<◌, ◌≤◌}
 use native.Mathlib.Nat.{zero-add, add-zero, add_assoc}
@@ -8,7 +8,9 @@ use native.Mathlib.Omega.{arith}
 use lib.ListN.{length, get_or, drop, drop_of_length-le}
 use Rattle.octets.proofs.LawsLists.{drop_next}
 use Rattle.octets.proofs.LawsTests.{chosen}
-use Rattle.hdlc.specs.Fate.{Fated, unchecked, decided, Read, later}
+use Rattle.hdlc.specs.declared.reader.Fate.{Fate}
+use Rattle.hdlc.specs.declared.reader.Fate.TheVariants.{Unfinished, Checked, Short, WrongCheck, TooLong, CutEscape, BadHeader}
+use Rattle.hdlc.specs.Fate.{Fated, fated, unchecked, decided, Read, later}
 use Rattle.hdlc.specs.Reader.{Assembling, after_octet, fate_at, run}
 
 pub later_zero : {S : Type 0} (o : Read S) → later 0 o ≡ o
@@ -23,6 +25,18 @@ unfolding run
 run_reads [] h = omega arith
 run_reads (b ∷ bs) h =
     chosen (λ (o : Read Assembling). o.read ≤ length (b ∷ bs)) (decided (fate_at h b)) (λ _. omega arith) (λ _. omega (arith, run_reads bs (after_octet h b)))
+
+pub undecided_fate : (f : Fate) (a : List ℕ) → f ≡ Unfinished → decided (fated f a) ≡ false
+undecided_fate f a e = rw e
+
+pub decided_fate : (f : Fate) (a : List ℕ) → (f ≡ Unfinished → ⊥) → decided (fated f a) ≡ true
+decided_fate Unfinished a n = absurd (n refl)
+decided_fate (Checked n) a _ = refl
+decided_fate Short a _ = refl
+decided_fate WrongCheck a _ = refl
+decided_fate TooLong a _ = refl
+decided_fate CutEscape a _ = refl
+decided_fate BadHeader a _ = refl
 
 -- ---- the outcome of what is left from `at` on
 

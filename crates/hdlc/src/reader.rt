@@ -4,11 +4,12 @@ ghost use Rattle.hdlc.specs.Fate.{fate_number, fated};
 ghost use Rattle.hdlc.specs.Reader.{max_gathered, gathering, fresh, assembling, outcome, frame_fate, flag_fate, gather, after_content, after_octet, fate_at, run};
 ghost use Rattle.hdlc.specs.Rules.{rules};
 
-use frame::{OctetKind, fcs16, kind_of};
+use frame::{OctetKind, fcs16};
 use octets::{Body, read_le};
 
-// What became of a frame, with 01's number of each fate.
-#[derive(Clone, Copy)]
+// What became of a frame, with 01's number of each fate. It stays a flat enum: the definitions name the seven of the paper's list, which an
+// Option of a Result would hide.
+#[derive(Clone, Copy, PartialEq, Eq)]
 pub enum Fate {
     // 0: the input ended and no frame is finished.
     Unfinished,
@@ -43,7 +44,7 @@ impl Fate {
     }
 }
 
-#[derive(Clone, Copy)]
+#[derive(Clone, Copy, PartialEq, Eq)]
 pub struct Reader {
     // How many octets are gathered, from the front of the assembly buffer.
     pub count: usize,
@@ -54,7 +55,7 @@ pub struct Reader {
 }
 
 // What one call gives.
-#[derive(Clone, Copy)]
+#[derive(Clone, Copy, PartialEq, Eq)]
 pub struct Reading {
     pub fate: Fate,
     // How many octets of the input were read, the deciding flag included.
@@ -93,19 +94,91 @@ impl Reader {
     }
 
     // Whether a reader's state is one that reading can leave.
+    #[tactic(auto, unfolding(crate::specs::Rules::rules))]
     pub fn keeps_rules(self) -> bool
         ensures { result ≡ rules self }
     {
-        if Reader::MAX_GATHERED < self.count {
-            return false;
-        }
+        self.count <= Reader::MAX_GATHERED
+            && (!self.discarding || (!self.escaped && self.count == Reader::MAX_GATHERED))
+    }
+
+    // The fate that a flag gives, `Unfinished` where no frame ends.
+    #[tactic(auto, unfolding(crate::specs::Reader::flag_fate))]
+    fn flag_fate(self, assembly: &[u8]) -> Fate
+        requires { self.count ≤ length assembly.now }
+        ensures { fated result assembly.now ≡ flag_fate (assembling self assembly.now) }
+    {
         if self.discarding {
-            if self.escaped {
-                return false;
-            }
-            return self.count == Reader::MAX_GATHERED;
+            return Fate::TooLong;
         }
-        true
+        if self.escaped {
+            return Fate::CutEscape;
+        }
+        if self.count == 0 {
+            return Fate::Unfinished;
+        }
+        frame_fate(&assembly[..self.count])
+    }
+
+    // One octet more is gathered; one too many starts the discard.
+    #[tactic(auto, unfolding(crate::specs::Reader::gather))]
+    fn gather(self, octet: u8, assembly: &mut [u8]) -> Reader
+        requires { max_gathered ≤ length assembly.old }
+        ensures { assembling result assembly.new ≡ gather (assembling self assembly.old) octet }
+    {
+        if self.count < Reader::MAX_GATHERED {
+            assembly[self.count] = octet;
+            return Reader::gathering(self.count + 1, false);
+        }
+        Reader {
+            count: Reader::MAX_GATHERED,
+            escaped: false,
+            discarding: true,
+        }
+    }
+
+    // An octet of a frame's content: neither a flag nor skipped.
+    #[tactic(auto, unfolding(crate::specs::Reader::after_content))]
+    fn take_content(self, escape: bool, octet: u8, assembly: &mut [u8]) -> Reader
+        requires { max_gathered ≤ length assembly.old }
+        ensures { assembling result assembly.new ≡ after_content (assembling self assembly.old) escape octet }
+    {
+        if self.discarding {
+            return self;
+        }
+        if self.escaped {
+            return self.gather(octet ^ 0x20, assembly);
+        }
+        if escape {
+            return Reader::gathering(self.count, true);
+        }
+        self.gather(octet, assembly)
+    }
+
+    // One octet: the fate that it decides, and the reader after it.
+    fn read_octet(self, octet: u8, assembly: &mut [u8]) -> Step
+        requires { (self.count ≤ max_gathered) × (max_gathered ≤ length assembly.old) }
+        ensures { (fated result.fate assembly.new ≡ fate_at (assembling self assembly.old) octet)
+            × (assembling result.reader assembly.new ≡ after_octet (assembling self assembly.old) octet) }
+    {
+        match OctetKind::from(octet) {
+            OctetKind::Flag => Step {
+                fate: self.flag_fate(assembly),
+                reader: Reader::fresh(),
+            },
+            OctetKind::Skipped => Step {
+                fate: Fate::Unfinished,
+                reader: self,
+            },
+            OctetKind::Escape => Step {
+                fate: Fate::Unfinished,
+                reader: self.take_content(true, octet, assembly),
+            },
+            OctetKind::Plain => Step {
+                fate: Fate::Unfinished,
+                reader: self.take_content(false, octet, assembly),
+            },
+        }
     }
 }
 
@@ -118,7 +191,7 @@ fn frame_fate(gathered: &[u8]) -> Fate
         return Fate::Short;
     }
     let body = count - 2;
-    if read_le(gathered, body, 2) != fcs16(&gathered[..body]) as u32 {
+    if read_le(gathered, body, 2) != u32::from(fcs16(&gathered[..body])) {
         return Fate::WrongCheck;
     }
     if gathered[0] / 64 != 2 {
@@ -127,119 +200,28 @@ fn frame_fate(gathered: &[u8]) -> Fate
     Fate::Checked(body)
 }
 
-// The fate that a flag gives, `Unfinished` where no frame ends.
-fn flag_fate(reader: Reader, assembly: &[u8]) -> Fate
-    requires { reader.count ≤ length assembly.now }
-    ensures { fated result assembly.now ≡ flag_fate (assembling reader assembly.now) }
-{
-    if reader.discarding {
-        return Fate::TooLong;
-    }
-    if reader.escaped {
-        return Fate::CutEscape;
-    }
-    let count = reader.count;
-    if count == 0 {
-        return Fate::Unfinished;
-    }
-    frame_fate(&assembly[..count])
-}
-
-// One octet more is gathered; one too many starts the discard.
-fn gather_octet(reader: Reader, octet: u8, assembly: &mut [u8]) -> Reader
-    requires { max_gathered ≤ length assembly.old }
-    ensures { assembling result assembly.new ≡ gather (assembling reader assembly.old) octet }
-{
-    let count = reader.count;
-    if count < Reader::MAX_GATHERED {
-        assembly[count] = octet;
-        return Reader::gathering(count + 1, false);
-    }
-    Reader {
-        count: Reader::MAX_GATHERED,
-        escaped: false,
-        discarding: true,
-    }
-}
-
-// An octet of a frame's content: neither a flag nor skipped.
-fn take_content(reader: Reader, escape: bool, octet: u8, assembly: &mut [u8]) -> Reader
-    requires { max_gathered ≤ length assembly.old }
-    ensures { assembling result assembly.new ≡ after_content (assembling reader assembly.old) escape octet }
-{
-    if reader.discarding {
-        return reader;
-    }
-    if reader.escaped {
-        return gather_octet(reader, octet ^ 0x20, assembly);
-    }
-    if escape {
-        return Reader::gathering(reader.count, true);
-    }
-    gather_octet(reader, octet, assembly)
-}
-
-// One octet: the fate that it decides, and the reader after it.
-fn read_octet(reader: Reader, octet: u8, assembly: &mut [u8]) -> Step
-    requires { (reader.count ≤ max_gathered) × (max_gathered ≤ length assembly.old) }
-    ensures { (fated result.fate assembly.new ≡ fate_at (assembling reader assembly.old) octet)
-        × (assembling result.reader assembly.new ≡ after_octet (assembling reader assembly.old) octet) }
-{
-    let kind = kind_of(octet);
-    match kind {
-        OctetKind::Flag => {
-            let fate = flag_fate(reader, &assembly[..]);
-            return Step {
-                fate,
-                reader: Reader::fresh(),
-            };
-        }
-        OctetKind::Skipped => {
-            return Step {
-                fate: Fate::Unfinished,
-                reader,
-            };
-        }
-        OctetKind::Escape => {
-            let next = take_content(reader, true, octet, assembly);
-            return Step {
-                fate: Fate::Unfinished,
-                reader: next,
-            };
-        }
-        OctetKind::Plain => {
-            let next = take_content(reader, false, octet, assembly);
-            return Step {
-                fate: Fate::Unfinished,
-                reader: next,
-            };
-        }
-    }
-}
-
-// Reads the input until the first frame has its fate, or the input ends.
-pub fn read_frame(reader: Reader, input: &[u8], assembly: &mut [u8]) -> Reading
+// Reads the input until the first frame has its fate, or the input ends. The loop gives fate and octets read by `break` at the deciding
+// flag, as 01 tells it.
+pub fn read_frame(mut reader: Reader, input: &[u8], assembly: &mut [u8]) -> Reading
     requires { (rules reader ≡ true) × (max_gathered ≤ length assembly.old) }
     ensures { outcome result.fate result.read result.reader assembly.new
         ≡ run (assembling reader assembly.old) input.now }
 {
-    let mut reader = reader;
     let mut at: usize = 0;
     loop {
-        if input.len() <= at {
+        if at == input.len() {
             break Reading {
                 fate: Fate::Unfinished,
                 read: at,
                 reader,
             };
         }
-        let s = read_octet(reader, input[at], assembly);
+        let step = reader.read_octet(input[at], assembly);
         at += 1;
-        reader = s.reader;
-        let fate = s.fate;
-        if fate.number() != 0 {
+        reader = step.reader;
+        if step.fate != Fate::Unfinished {
             break Reading {
-                fate,
+                fate: step.fate,
                 read: at,
                 reader,
             };

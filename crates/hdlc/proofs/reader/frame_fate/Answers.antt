@@ -13,12 +13,12 @@ use Rattle.hdlc.specs.Fate.{checked, unchecked}
 use Rattle.hdlc.specs.Reader.{body_of, check_of, headed, frame_fate}
 use Rattle.hdlc.proofs.LawsFates.{header_gathered}
 use Rattle.hdlc.proofs.reader.frame_fate.Goals as goal
-use Rattle.hdlc.proofs.reader.frame_fate.Goals.{After-fcs16}
+use Rattle.hdlc.proofs.reader.frame_fate.Goals.{After-from}
 
-same_test : (c : After-fcs16) → let g = c.args.gathered.now in eqb (check_of g) (fcs (body_of g)) ≡ eqb c.read_le.result c.fcs16.result
+same_test : (c : After-from) → let g = c.args.gathered.now in eqb (check_of g) (fcs (body_of g)) ≡ eqb c.read_le.result c.from.result
 unfolding check_of body_of
 same_test c =
-    sym (ap₂ eqb c.read_le.ensures c.fcs16.ensures)
+    sym (ap₂ eqb c.read_le.ensures (c.from.ensures ∙ c.fcs16.ensures))
 
 pub returns-then-count-lt4 : goal.returns-then-count-lt4
 unfolding frame_fate
@@ -29,21 +29,21 @@ pub slice_bounds-fcs16-end : goal.slice_bounds-fcs16-end
 slice_bounds-fcs16-end c =
     sym (length-take-le _ _ (omega arith))
 
-pub returns-then-read_le-fcs16 : goal.returns-then-read_le-fcs16
+pub returns-then-read_le-from : goal.returns-then-read_le-from
 unfolding frame_fate
-returns-then-read_le-fcs16 c =
+returns-then-read_le-from c =
     rw (
       le-ltb _ _ c.if-count-lt4.false,
-      (same_test (goal.at.returns-then-read_le-fcs16 c).After-fcs16),
-      ne_eqb _ _ c.if-read_le-fcs16.true,
+      (same_test (goal.at.returns-then-read_le-from c).After-from),
+      ne_eqb _ _ c.if-read_le-from.true,
     )
 
 pub returns-then-gathered-ne2 : goal.returns-then-gathered-ne2
 unfolding frame_fate headed
 returns-then-gathered-ne2 c =
-    sym ((let h : let g = c.args.gathered.now in frame_fate g ≡ cond (eqb (header_of g / 64) 2) (checked (body_of g)) (unchecked 6) = let long = c.if-count-lt4.false in rw (le-ltb _ _ long, (same_test (goal.at.returns-then-gathered-ne2 c).After-fcs16), eq-eqb _ _ c.if-read_le-fcs16.false, header_gathered _ long) in h) ∙ rw (ne_eqb _ _ c.if-gathered-ne2.true))
+    sym ((let h : let g = c.args.gathered.now in frame_fate g ≡ cond (eqb (header_of g / 64) 2) (checked (body_of g)) (unchecked 6) = let long = c.if-count-lt4.false in rw (le-ltb _ _ long, (same_test (goal.at.returns-then-gathered-ne2 c).After-from), eq-eqb _ _ c.if-read_le-from.false, header_gathered _ long) in h) ∙ rw (ne_eqb _ _ c.if-gathered-ne2.true))
 
 pub returns : goal.returns
 unfolding body_of frame_fate headed
 returns c =
-    sym ((let h : let g = c.args.gathered.now in frame_fate g ≡ cond (eqb (header_of g / 64) 2) (checked (body_of g)) (unchecked 6) = let long = c.if-count-lt4.false in rw (le-ltb _ _ long, (same_test (goal.at.returns c).After-fcs16), eq-eqb _ _ c.if-read_le-fcs16.false, header_gathered _ long) in h) ∙ rw (eq-eqb _ _ c.if-gathered-ne2.false))
+    sym ((let h : let g = c.args.gathered.now in frame_fate g ≡ cond (eqb (header_of g / 64) 2) (checked (body_of g)) (unchecked 6) = let long = c.if-count-lt4.false in rw (le-ltb _ _ long, (same_test (goal.at.returns c).After-from), eq-eqb _ _ c.if-read_le-from.false, header_gathered _ long) in h) ∙ rw (eq-eqb _ _ c.if-gathered-ne2.false))

@@ -10,8 +10,11 @@ use Rattle.hdlc.proofs.reader.read_frame.Given as goal
 
 abbrev pub invariant-loop-at : goal.invariant-loop-at
 invariant-loop-at l =
-    (l.at ≤ length l.input) × (length l.assembly ≡ length l.initial.assembly) × (rules l.reader ≡ true)
-    × (later l.at (run (assembling l.reader l.assembly) (drop l.at l.input)) ≡ run (assembling l.initial.reader l.initial.assembly) l.input)
+    record {
+      inside : l.at ≤ length l.input;
+      keeps : rules l.reader ≡ true;
+      left : later l.at (run (assembling l.reader l.assembly) (drop l.at l.input)) ≡ run (assembling l.initial.reader l.initial.assembly) l.input;
+    }
 
 abbrev pub decreases-loop-at : goal.decreases-loop-at
 decreases-loop-at l =
