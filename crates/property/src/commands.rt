@@ -1,6 +1,6 @@
 // Commands and their numbers (01, Commands), by 000's names.
 
-// The commands that name a property.
+// The commands that name a property. `request` tells all six numbers apart in one match, NOOP and RESET with them, and so needs no TryFrom.
 #[derive(Clone, Copy, PartialEq, Eq)]
 pub enum Command {
     Get,

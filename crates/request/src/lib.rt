@@ -3,4 +3,4 @@
 
 mod verdict;
 
-pub use verdict::{Verdict, verdict_of};
+pub use verdict::{Refusal, Request, verdict_of};

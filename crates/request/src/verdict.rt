@@ -1,71 +1,90 @@
 // What a body asks, before its payload is looked at: steps 2 to 5 of 01, Commands.
 ghost use Rattle.std.specs.Prelude.{◌≡◌};
-ghost use Rattle.request.specs.Verdict.{command_of, by_property, verdict};
+ghost use Rattle.property.specs.Status.{status_number};
+ghost use Rattle.request.specs.Verdict.{step_of, status_of, cause_of, verdict};
 
-use packed::{Cause, Packed, read_packed};
-use property::{Command, Found, Row, allows, commands, find, status};
+use packed::{Fault, read_packed};
+use property::{Command, Row, Status, commands, find};
 
-#[derive(Clone, Copy)]
-pub enum Verdict {
-    // Stopped by 01's step of this number, with this status; and the fault of a packed integer, where that stopped it.
-    Refuse(u8, u8, Cause),
+// What stops a body in these steps.
+#[derive(Clone, Copy, PartialEq, Eq)]
+pub enum Refusal {
+    UnreadableCommand(Fault),
+    UnknownCommand,
+    UnreadableProperty(Fault),
+    UnknownProperty,
+    NotAllowed,
+}
+
+impl Refusal {
+    // The step of 01, Commands, that stops the body.
+    pub fn step(self) -> u8
+        ensures { result ≡ step_of self }
+    {
+        match self {
+            Refusal::UnreadableCommand(_) | Refusal::UnknownCommand => 2,
+            Refusal::UnreadableProperty(_) | Refusal::UnknownProperty => 4,
+            Refusal::NotAllowed => 5,
+        }
+    }
+
+    pub fn status(self) -> Status
+        ensures { status_number result ≡ status_of self }
+    {
+        match self {
+            Refusal::UnreadableCommand(_) | Refusal::UnreadableProperty(_) => Status::ParseError,
+            Refusal::UnknownCommand => Status::InvalidCommand,
+            Refusal::UnknownProperty => Status::PropNotFound,
+            Refusal::NotAllowed => Status::InvalidCommandForProp,
+        }
+    }
+
+    // The fault of a packed integer, where that stops the body.
+    pub fn cause(self) -> Option<Fault>
+        ensures { result ≡ cause_of self }
+    {
+        match self {
+            Refusal::UnreadableCommand(fault) | Refusal::UnreadableProperty(fault) => Some(fault),
+            Refusal::UnknownCommand | Refusal::UnknownProperty | Refusal::NotAllowed => None,
+        }
+    }
+}
+
+// What a body asks that these steps let pass.
+#[derive(Clone, Copy, PartialEq, Eq)]
+pub enum Request {
     Noop,
     Reset,
     // A command on a property that allows it; the payload starts at this place.
-    Reach(Command, Row, usize),
+    Reach {
+        command: Command,
+        row: Row,
+        start: usize,
+    },
 }
 
-// The command of a number from 2 to 5.
-fn command_of(number: u32) -> Command
-    ensures { result ≡ command_of number }
-{
-    if number == commands::VALUE_GET {
-        return Command::Get;
-    }
-    if number == commands::VALUE_SET {
-        return Command::Set;
-    }
-    if number == commands::VALUE_INSERT {
-        return Command::Insert;
-    }
-    Command::Remove
-}
-
-// Steps 4 and 5.
-fn by_property(command: Command, number: Packed) -> Verdict
-    ensures { result ≡ by_property command number }
-{
-    match number {
-        Packed::Unreadable(fault) => Verdict::Refuse(4, status::PARSE_ERROR, Cause::Integer(fault)),
-        Packed::Number(id, start) => {
-            let found = find(id);
-            let Found::At(row) = found else {
-                return Verdict::Refuse(4, status::PROP_NOT_FOUND, Cause::None);
-            };
-            if allows(row, command) {
-                return Verdict::Reach(command, row, start);
-            }
-            Verdict::Refuse(5, status::INVALID_COMMAND_FOR_PROP, Cause::None)
-        }
-    }
-}
-
-pub fn verdict_of(body: &[u8]) -> Verdict
+#[tactic(auto, unfolding(crate::specs::Verdict::verdict, crate::specs::Verdict::command_of))]
+pub fn verdict_of(body: &[u8]) -> Result<Request, Refusal>
     ensures { result ≡ verdict body.now }
 {
-    match read_packed(body, 1) {
-        Packed::Unreadable(fault) => Verdict::Refuse(2, status::PARSE_ERROR, Cause::Integer(fault)),
-        Packed::Number(command, next) => {
-            if command == commands::NOOP {
-                return Verdict::Noop;
-            }
-            if command == commands::RESET {
-                return Verdict::Reset;
-            }
-            if commands::VALUE_REMOVE < command {
-                return Verdict::Refuse(2, status::INVALID_COMMAND, Cause::None);
-            }
-            by_property(command_of(command), read_packed(body, next))
-        }
+    let asked = read_packed(body, 1).map_err(Refusal::UnreadableCommand)?;
+    let command = match asked.number {
+        commands::NOOP => return Ok(Request::Noop),
+        commands::RESET => return Ok(Request::Reset),
+        commands::VALUE_GET => Command::Get,
+        commands::VALUE_SET => Command::Set,
+        commands::VALUE_INSERT => Command::Insert,
+        commands::VALUE_REMOVE => Command::Remove,
+        _ => return Err(Refusal::UnknownCommand),
+    };
+    let named = read_packed(body, asked.next).map_err(Refusal::UnreadableProperty)?;
+    let row = find(named.number).ok_or(Refusal::UnknownProperty)?;
+    if !row.allows(command) {
+        return Err(Refusal::NotAllowed);
     }
+    Ok(Request::Reach {
+        command,
+        row,
+        start: named.next,
+    })
 }
