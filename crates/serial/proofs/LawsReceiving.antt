@@ -4,8 +4,9 @@ use mathlib.Core.Bool.{true, false, cond}
 use mathlib.Core.List.{List, [], ◌∷◌, map, append-nil}
 use Prim.Native.Nat.{ℕ, ◌≤◌, ◌<◌}
 use native.Mathlib.Omega.{arith}
-use borrow.Author.Tests.{not-false, eqb-true, ne_eqb}
-use lib.Dec.{eqb}
+use borrow.Author.Tests.{not-false, eqb-true, ne_eqb, ltb-false}
+use Rattle.std.specs.Prelude.{Ok, Err}
+use lib.Dec.{eqb, ltb}
 use lib.ListN.{length, take, drop, length-append}
 use lib.Seq.{take-append_seam}
 use Rattle.octets.specs.Body.{min_body}
@@ -15,7 +16,7 @@ use Rattle.frame.specs.Frame.{frame, written, writing}
 use Rattle.frame.proofs.FrameBounds.{frame_bounds}
 use Rattle.hdlc.specs.declared.reader.Reader.{Reader}
 use Rattle.hdlc.specs.Fate.{given}
-use Rattle.hdlc.specs.Reader.{assembling, Outcome}
+use Rattle.hdlc.specs.Reader.{max_gathered, assembling, Outcome}
 use Rattle.hdlc.specs.Rules.{rules as reader_rules}
 use Rattle.hdlc.specs.Wire.{checked_of}
 use Rattle.hdlc.proofs.CheckedBodies.{checked_given}
@@ -25,13 +26,37 @@ use Rattle.device.specs.Rules.{rules}
 use Rattle.engine.specs.Engine.{engine}
 use Rattle.engine.specs.Merged.{device_after, replies_to}
 use Rattle.engine.proofs.ReplyBounds.{reply_bounds}
+use Rattle.serial.specs.declared.receiving.Refusal.{Refusal}
+use Rattle.serial.specs.declared.receiving.Refusal.TheVariants.{BadState, SmallAssembly}
 use Rattle.serial.specs.declared.receiving.Received.{Received}
-use Rattle.serial.specs.Receiving.{Result, result_of, breaks_rules, unrefused, framed}
+use Rattle.serial.specs.Receiving.{Result, refusal_number, result_of, Keeps, breaks_rules, refused, admit, unrefused, receive, receive_body, framed}
 use Rattle.serial.specs.Histories.{reply_in}
 
 pub rules_kept : (d : Device) (r : Reader) → breaks_rules d r ≡ false → (rules d ≡ true) × (reader_rules r ≡ true)
 unfolding breaks_rules
 rules_kept d r e = both_told (not-false _ e)
+
+-- ---- what both calls test first
+
+module _ (d : Device) (r : Reader) (a : List ℕ) where
+  -- one of their refusals is that of either call
+  pub admit_err : {e : Refusal} → Err e ≡ admit d r a → (input out : List ℕ)
+      → (refused (refusal_number e) d r a out ≡ receive d r input a out) × (refused (refusal_number e) d r a out ≡ receive_body d r input a out)
+  unfolding admit receive receive_body
+  admit_err {e} is input out =
+      by_test (breaks_rules d r) (λ t. let found = rw t at is in let same : e ≡ BadState = cc in rw (t, same) (refl, refl))
+      (λ t.
+      by_test (ltb (length a) max_gathered) (λ u. let found = rw (t, u) at is in let same : e ≡ SmallAssembly = cc in rw (t, u, same) (refl, refl))
+      (λ u. let found = rw (t, u) at is in cc))
+
+  -- a call that goes on has nothing of them
+  pub admit_ok : Ok tt ≡ admit d r a → Keeps d r a
+  unfolding admit
+  admit_ok is =
+      by_test (breaks_rules d r) (λ t. let found = rw t at is in cc)
+      (λ t.
+      by_test (ltb (length a) max_gathered) (λ u. let found = rw (t, u) at is in cc)
+      (λ u. record { device = (rules_kept d r t).0; reader = (rules_kept d r t).1; room = ltb-false _ _ u }))
 
 -- ---- a call that was not refused, by the bodies that it checked
 

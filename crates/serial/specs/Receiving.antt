@@ -1,30 +1,33 @@
 -- The receiving call (01, Octets on the wire).
-use Rattle.std.specs.Prelude.{Bool, true, cond, not, ◌&&◌, List, [], ◌++◌, ◌≡◌, ℕ, ◌≤◌, eqb, ltb, length, take, drop}
+use Rattle.std.specs.Prelude.{Bool, true, cond, not, ◌&&◌, List, [], ◌++◌, ◌≡◌, ℕ, ◌≤◌, eqb, ltb, length, take, drop, Result as Tried, Ok, Err}
 use Rattle.frame.specs.Frame.{frame}
 use Rattle.hdlc.specs.declared.reader.Reader.{Reader}
+use Rattle.hdlc.specs.declared.reader.Fate.{Fate}
 use Rattle.hdlc.specs.Fate.{fate_number, body_in}
 use Rattle.hdlc.specs.Reader.{max_gathered, assembling, Outcome, run}
 use Rattle.hdlc.specs.Rules.{rules as reader_rules}
 use Rattle.device.specs.declared.state.Device.{Device}
 use Rattle.device.specs.Rules.{rules}
 use Rattle.engine.specs.Engine.{engine}
-use Rattle.serial.specs.declared.receiving.Answer.{Answer}
-use Rattle.serial.specs.declared.receiving.Answer.TheVariants.{Read, BadState, SmallAssembly, SmallOutput}
+use Rattle.serial.specs.declared.receiving.Refusal.{Refusal}
+use Rattle.serial.specs.declared.receiving.Refusal.TheVariants.{BadState, SmallAssembly, SmallOutput}
 use Rattle.serial.specs.declared.receiving.Received.{Received}
 
+-- 01's number of a refusal
+abbrev pub refusal_number : Refusal → ℕ
+refusal_number BadState = 11
+refusal_number SmallAssembly = 12
+refusal_number SmallOutput = 13
+
 -- 01's number of an answer
-abbrev pub number_of : Answer → ℕ
-number_of (Read f) = fate_number f
-number_of BadState = 11
-number_of SmallAssembly = 12
-number_of SmallOutput = 13
+abbrev pub number_of : Tried Fate Refusal → ℕ
+number_of (Ok f) = fate_number f
+number_of (Err r) = refusal_number r
 
 -- the body of the frame that was answered, from the front of the assembly buffer
-abbrev pub request_in : Answer → List ℕ → List ℕ
-request_in (Read f) a = body_in f a
-request_in BadState a = []
-request_in SmallAssembly a = []
-request_in SmallOutput a = []
+abbrev pub request_in : Tried Fate Refusal → List ℕ → List ℕ
+request_in (Ok f) a = body_in f a
+request_in (Err r) a = []
 
 -- "refused: output under 128"
 abbrev pub min_output : ℕ
@@ -96,6 +99,10 @@ unrefused octets d o out =
 -- "state breaks its own rules": the box, or the reader
 unfoldable pub breaks_rules : Device → Reader → Bool
 breaks_rules d r = not (rules d && reader_rules r)
+
+-- the refusals that both calls below have
+unfoldable pub admit : Device → Reader → List ℕ → Tried Unit Refusal
+admit d r a = cond (breaks_rules d r) (Err BadState) (cond (ltb (length a) max_gathered) (Err SmallAssembly) (Ok tt))
 
 -- "refusals in the order 11, 12, 13"; a reply goes out as a frame
 unfoldable pub receive : Device → Reader → List ℕ → List ℕ → List ℕ → Result

@@ -3,4 +3,4 @@
 
 mod receiving;
 
-pub use receiving::{Answer, Received, receive, receive_body};
+pub use receiving::{Received, Refusal, receive, receive_body};

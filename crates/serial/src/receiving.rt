@@ -3,18 +3,16 @@ ghost use Rattle.std.specs.Prelude.{true, ◌≡◌, ◌≤◌, length};
 ghost use Rattle.hdlc.specs.Reader.{max_gathered, assembling, run};
 ghost use Rattle.hdlc.specs.Rules.{rules as reader_rules};
 ghost use Rattle.device.specs.Rules.{rules};
-ghost use Rattle.serial.specs.Receiving.{number_of, result_of, breaks_rules, unrefused, receive, receive_body};
+ghost use Rattle.serial.specs.Receiving.{refusal_number, number_of, result_of, breaks_rules, admit, unrefused, receive, receive_body};
 
 use device::Device;
 use engine::answer;
 use frame::write_frame;
-use hdlc::{Fate, Reader, read_frame};
+use hdlc::{Fate, Reader, Reading, read_frame};
 
-// What a call answers, with 01's numbers.
-#[derive(Clone, Copy)]
-pub enum Answer {
-    // 0 to 6: what it read, and what became of a frame. A checked frame (1) was answered.
-    Read(Fate),
+// Why a call is refused, with 01's numbers. A refused one reads nothing and writes nothing.
+#[derive(Clone, Copy, PartialEq, Eq)]
+pub enum Refusal {
     // 11: the box or the reader breaks its own rules.
     BadState,
     // 12: the assembly buffer has under 1,302 octets.
@@ -23,23 +21,23 @@ pub enum Answer {
     SmallOutput,
 }
 
-impl Answer {
-    // 01's number of the answer.
+impl Refusal {
+    // 01's number of the refusal.
     pub fn number(self) -> u32
-        ensures { result ≡ number_of self }
+        ensures { result ≡ refusal_number self }
     {
         match self {
-            Answer::Read(fate) => fate.number(),
-            Answer::BadState => 11,
-            Answer::SmallAssembly => 12,
-            Answer::SmallOutput => 13,
+            Refusal::BadState => 11,
+            Refusal::SmallAssembly => 12,
+            Refusal::SmallOutput => 13,
         }
     }
 }
 
 #[derive(Clone, Copy)]
 pub struct Received {
-    pub answer: Answer,
+    // What was read, and what became of a frame: one that is checked was answered.
+    pub answer: Result<Fate, Refusal>,
     // How many octets of the input were read, the deciding flag included.
     pub read: usize,
     // How many octets were written for a reply, from the front of the output or, before framing, of the space.
@@ -48,26 +46,55 @@ pub struct Received {
     pub reader: Reader,
 }
 
+impl Received {
+    // 01's number of the answer: 0 to 6 of a fate, 11 to 13 of a refusal.
+    pub fn number(self) -> u32
+        ensures { result ≡ number_of self.answer }
+    {
+        match self.answer {
+            Ok(fate) => fate.number(),
+            Err(refusal) => refusal.number(),
+        }
+    }
+
+    // A call that writes no reply. A refused one reads nothing either.
+    fn without_reply(
+        answer: Result<Fate, Refusal>,
+        read: usize,
+        device: Device,
+        reader: Reader,
+    ) -> Received
+        ensures { result ≡ record { answer = answer; read = read; written = 0; device = device; reader = reader } }
+    {
+        Received {
+            answer,
+            read,
+            written: 0,
+            device,
+            reader,
+        }
+    }
+}
+
+#[tactic(auto, unfolding(crate::specs::Receiving::breaks_rules))]
 fn breaks_rules(device: Device, reader: Reader) -> bool
     ensures { result ≡ breaks_rules device reader }
 {
-    if device.keeps_rules() {
-        return !reader.keeps_rules();
-    }
-    true
+    !device.keeps_rules() || !reader.keeps_rules()
 }
 
-// A call that writes no reply. A refused one reads nothing either.
-fn without_reply(answer: Answer, read: usize, device: Device, reader: Reader) -> Received
-    ensures { result ≡ record { answer = answer; read = read; written = 0; device = device; reader = reader } }
+// Whether a call goes on to read: the refusals that both calls have, in their order.
+#[tactic(auto, unfolding(crate::specs::Receiving::admit))]
+fn admit(device: Device, reader: Reader, assembly: &[u8]) -> Result<(), Refusal>
+    ensures { result ≡ admit device reader assembly.now }
 {
-    Received {
-        answer,
-        read,
-        written: 0,
-        device,
-        reader,
+    if breaks_rules(device, reader) {
+        return Err(Refusal::BadState);
     }
+    if assembly.len() < Reader::MAX_GATHERED {
+        return Err(Refusal::SmallAssembly);
+    }
+    Ok(())
 }
 
 // Reads to the first fate, and has a checked body answered. The reply goes to the front of the space.
@@ -83,24 +110,22 @@ fn read_and_answer(
     ensures { result_of result assembly.new space.new
         ≡ unrefused (λ b. b) device (run (assembling reader assembly.old) input.now) space.old }
 {
-    let reading = read_frame(reader, input, assembly);
-    let fate = reading.fate;
-    let next = reading.reader;
+    let Reading { fate, read, reader } = read_frame(reader, input, assembly);
     if let Fate::Checked(len) = fate {
         let answered = answer(device, &assembly[..len], space);
-        let changed = answered.device;
         return Received {
-            answer: Answer::Read(fate),
-            read: reading.read,
+            answer: Ok(fate),
+            read,
             written: answered.len,
-            device: changed,
-            reader: next,
+            device: answered.device,
+            reader,
         };
     }
-    without_reply(Answer::Read(fate), reading.read, device, next)
+    Received::without_reply(Ok(fate), read, device, reader)
 }
 
 // Takes any box, any reader, any input and any buffers. A refused call reads nothing, writes nothing and hands both states back.
+// Box, reader and buffers come one by one, and the states go out again: this is the form that 01 gives the call.
 pub fn receive(
     device: Device,
     reader: Reader,
@@ -111,14 +136,11 @@ pub fn receive(
     ensures { result_of result assembly.new output.new
         ≡ receive device reader input.now assembly.old output.old }
 {
-    if breaks_rules(device, reader) {
-        return without_reply(Answer::BadState, 0, device, reader);
-    }
-    if assembly.len() < Reader::MAX_GATHERED {
-        return without_reply(Answer::SmallAssembly, 0, device, reader);
+    if let Err(refusal) = admit(device, reader, assembly) {
+        return Received::without_reply(Err(refusal), 0, device, reader);
     }
     if output.len() < Device::MIN_OUTPUT {
-        return without_reply(Answer::SmallOutput, 0, device, reader);
+        return Received::without_reply(Err(Refusal::SmallOutput), 0, device, reader);
     }
     let mut reply = [0u8; Device::MAX_REPLY];
     let mut received = read_and_answer(device, reader, input, assembly, &mut reply);
@@ -140,11 +162,8 @@ pub fn receive_body(
     ensures { result_of result assembly.new space.new
         ≡ receive_body device reader input.now assembly.old space.old }
 {
-    if breaks_rules(device, reader) {
-        return without_reply(Answer::BadState, 0, device, reader);
-    }
-    if assembly.len() < Reader::MAX_GATHERED {
-        return without_reply(Answer::SmallAssembly, 0, device, reader);
+    if let Err(refusal) = admit(device, reader, assembly) {
+        return Received::without_reply(Err(refusal), 0, device, reader);
     }
     read_and_answer(device, reader, input, assembly, space)
 }

@@ -40,27 +40,24 @@ fits d body space kept size = let b = reply_bounds d body kept in omega arith
 
 pub slice_bounds-answer-end : goal.slice_bounds-answer-end
 slice_bounds-answer-end c =
-    (found _ _ _ _ _ _ _ _ c.in-Checked.is c.read_frame-reading.ensures c.requires.rules.1 c.requires.room).1
+    (found _ _ _ _ _ _ _ _ c.in-Checked.is c.read_frame-fate.ensures c.requires.rules.1 c.requires.room).1
 
 pub slice_bounds-answer-end-in-Checked : goal.slice_bounds-answer-end-in-Checked
 slice_bounds-answer-end-in-Checked c =
-    sym (length-take-le _ _ (found _ _ _ _ _ _ _ _ c.in-Checked.is c.read_frame-reading.ensures c.requires.rules.1 c.requires.room).1)
+    sym (length-take-le _ _ (found _ _ _ _ _ _ _ _ c.in-Checked.is c.read_frame-fate.ensures c.requires.rules.1 c.requires.room).1)
 
-pub answer-answered-requires : goal.answer-answered-requires
-answer-answered-requires c = record {
-  rules = c.requires.rules.0;
-  body = (found _ _ _ _ _ _ _ _ c.in-Checked.is c.read_frame-reading.ensures c.requires.rules.1 c.requires.room).0;
-  room = search found_by;
-}
+pub answer-answered-requires-clause-body : goal.answer-answered-requires-clause-body
+answer-answered-requires-clause-body c =
+    (found _ _ _ _ _ _ _ _ c.in-Checked.is c.read_frame-fate.ensures c.requires.rules.1 c.requires.room).0
 
 pub returns-in-Checked : goal.returns-in-Checked
 unfolding unrefused
 returns-in-Checked c =
-    let r = c.read_frame-reading.result in
-    let a = c.read_frame-reading.new.assembly in
+    let r = c.read_frame-fate.result in
+    let a = c.read_frame-fate.new.assembly in
     let w = c.answer-answered.ensures in
     let room = fits c.args.device (take c.in-Checked.len a) c.args.space.now c.requires.rules.0 (search found_by) in
-    rw (← reads _ _ _ _ _ _ _ _ c.in-Checked.is c.read_frame-reading.ensures)
+    rw (← reads _ _ _ _ _ _ _ _ c.in-Checked.is c.read_frame-fate.ensures)
     (λ i. record {
       number = 1;
       request = take c.in-Checked.len a;
@@ -75,6 +72,6 @@ returns-in-Checked c =
 pub returns : goal.returns
 unfolding unrefused
 returns c =
-    let read = c.read_frame-reading in
+    let read = c.read_frame-fate in
     let t = tag_unchecked read.result.fate read.new.assembly (opened c.in_default.in_default-own.keys2) in
     rw (c.without_reply.ensures, ← read.ensures, t.0, t.1)

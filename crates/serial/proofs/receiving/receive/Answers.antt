@@ -1,81 +1,68 @@
 -- Each refusal has the tests of the definition, and the rest is what `read_and_answer` gave, framed.
-use mathlib.Core.Bool.{false}
 use mathlib.Core.Path.{◌≡◌, sym, ◌∙◌}
 use native.Mathlib.Omega.{arith}
-use borrow.Author.Rules.{rules}
 use borrow.Author.Tests.{lt-ltb, le-ltb}
 use lib.ListN.{length, take}
 use lib.Seq.{length-take-le}
 use Rattle.frame.proofs.FrameBounds.{frame_bounds}
-use Rattle.serial.specs.Receiving.{min_output, result_of, breaks_rules, receive, framed}
-use Rattle.serial.proofs.LawsReceiving.{rules_kept, unrefused_framed, Fits, unrefused_fits, framed_none, framed_some}
+use Rattle.serial.specs.Receiving.{min_output, result_of, Keeps, breaks_rules, receive, framed}
+use Rattle.serial.proofs.LawsReceiving.{admit_err, admit_ok, unrefused_framed, Fits, unrefused_fits, framed_none, framed_some}
 use Rattle.serial.proofs.receiving.receive.Goals as goal
 use Rattle.serial.proofs.receiving.receive.Goals.{After-read_and_answer-received}
 
-kept : (c : After-read_and_answer-received) → breaks_rules c.args.device c.args.reader ≡ false
-kept c =
-    sym c.breaks_rules.ensures ∙ c.if-breaks_rules.false
+kept : (c : After-read_and_answer-received) → Keeps c.args.device c.args.reader c.args.assembly.now
+kept c = admit_ok _ _ _ c.in_default.ensures
 
 fits : (c : After-read_and_answer-received) → Fits (result_of c.read_and_answer-received.result c.read_and_answer-received.new.assembly c.read_and_answer-received.new.space)
 fits c =
-    rw c.read_and_answer-received.ensures (unrefused_fits _ _ _ (rules_kept _ _ (kept c)).0)
+    rw c.read_and_answer-received.ensures (unrefused_fits _ _ _ (kept c).device)
 
 rest : (c : After-read_and_answer-received) → let call = c.read_and_answer-received in receive c.args.device c.args.reader c.args.input.now c.args.assembly.now c.args.output.now ≡ framed (result_of call.result call.new.assembly c.read_and_answer-received.new.space) c.args.output.now
-unfolding receive
+unfolding receive breaks_rules
 rest c =
-    rw ((kept c), le-ltb _ _ c.if-assembly-lt-MAX_GATHERED.false, le-ltb _ _ c.if-output-lt-MIN_OUTPUT.false, c.read_and_answer-received.ensures)
-    (unrefused_framed _ _ _ _ (rules_kept _ _ (kept c)).0)
+    let k = kept c in
+    rw (k.device, k.reader, le-ltb _ _ k.room, le-ltb _ _ c.if-output-lt-MIN_OUTPUT.false, c.read_and_answer-received.ensures)
+    (unrefused_framed _ _ _ _ (kept c).device)
 
-pub returns-then-breaks_rules : goal.returns-then-breaks_rules
-unfolding receive
-returns-then-breaks_rules c =
-    rw (sym c.breaks_rules.ensures ∙ c.if-breaks_rules.true, c.without_reply.ensures)
-
-pub returns-then-assembly-lt-MAX_GATHERED : goal.returns-then-assembly-lt-MAX_GATHERED
-unfolding receive
-returns-then-assembly-lt-MAX_GATHERED c =
-    rw (sym c.breaks_rules.ensures ∙ c.if-breaks_rules.false, lt-ltb _ _ c.if-assembly-lt-MAX_GATHERED.true, c.without_reply-then-assembly-lt-MAX_GATHERED.ensures)
+pub returns-in-Err : goal.returns-in-Err
+returns-in-Err c = rw c.without_reply.ensures (admit_err _ _ _ c.in-Err.ensures _ _).0
 
 pub returns-then-output-lt-MIN_OUTPUT : goal.returns-then-output-lt-MIN_OUTPUT
-unfolding receive
+unfolding receive breaks_rules
 returns-then-output-lt-MIN_OUTPUT c =
+    let k = admit_ok _ _ _ c.in_default.ensures in
     rw (
-      sym c.breaks_rules.ensures ∙ c.if-breaks_rules.false,
-      le-ltb _ _ c.if-assembly-lt-MAX_GATHERED.false,
+      k.device,
+      k.reader,
+      le-ltb _ _ k.room,
       lt-ltb (length c.args.output.now) min_output (omega (arith, c.if-output-lt-MIN_OUTPUT.true)),
       c.without_reply-then-output-lt-MIN_OUTPUT.ensures,
     )
 
 pub read_and_answer-received-requires : goal.read_and_answer-received-requires
-unfolding receive
 read_and_answer-received-requires c =
-    record { rules = rules_kept _ _ (sym c.breaks_rules.ensures ∙ c.if-breaks_rules.false); room = search rules }
+    let k = admit_ok _ _ _ c.in_default.ensures in record { rules = (k.device, k.reader); room = k.room }
 
 pub slice_bounds-reply-end : goal.slice_bounds-reply-end
-unfolding receive
 slice_bounds-reply-end c =
     (fits (goal.at.slice_bounds-reply-end c).After-read_and_answer-received).within
 
 pub slice_bounds-write_frame-end : goal.slice_bounds-write_frame-end
-unfolding receive
 slice_bounds-write_frame-end c =
     sym (length-take-le _ _ (fits (goal.at.slice_bounds-write_frame-end c).After-read_and_answer-received).within)
 
 pub write_frame-requires : goal.write_frame-requires
-unfolding receive
 write_frame-requires c =
     let f = (fits (goal.at.write_frame-requires c).After-read_and_answer-received) in let size = length-take-le c.read_and_answer-received.result.written c.read_and_answer-received.new.space f.within in
     let some = f.least c.if-len-gt0.true in
     ((omega arith, omega arith), omega (arith, frame_bounds (take c.read_and_answer-received.result.written c.read_and_answer-received.new.space), c.if-output-lt-MIN_OUTPUT))
 
 pub returns-then-len-gt0 : goal.returns-then-len-gt0
-unfolding receive
 returns-then-len-gt0 c =
     sym
     ((rest (goal.at.returns-then-len-gt0 c).After-read_and_answer-received)
     ∙ framed_some c.read_and_answer-received.result _ c.read_and_answer-received.new.space _ c.if-len-gt0.true c.write_frame.ensures)
 
 pub returns-else-len-gt0 : goal.returns-else-len-gt0
-unfolding receive
 returns-else-len-gt0 c =
     sym ((rest (goal.at.returns-else-len-gt0 c).After-read_and_answer-received) ∙ framed_none c.read_and_answer-received.result _ c.read_and_answer-received.new.space _ (omega (arith, c.if-len-gt0.false)))
