@@ -5,10 +5,9 @@ use Prim.Native.Nat.{ℕ}
 use Rattle.lines.specs.Reader.{Keeping, step, reading}
 
 two_pieces : (h : Keeping) (text rest : List ℕ) → reading h (text ++ rest) ≡ reading (reading h text) rest
-unfolding reading
 two_pieces h text rest = foldl-append step h text rest
 
 pub any_pieces : (h : Keeping) (pieces : List (List ℕ)) → foldl reading h pieces ≡ reading h (flatten pieces)
-unfolding reading flatten
+unfolding flatten
 any_pieces h [] = refl
 any_pieces h (text ∷ pieces) = any_pieces (reading h text) pieces ∙ sym (two_pieces h text (flatten pieces))

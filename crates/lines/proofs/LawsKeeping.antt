@@ -20,15 +20,12 @@ abbrev pub behind : ℕ → Bool → LineReader
 behind n m = record { stage = Octet; count = n; more = m }
 
 pub kept_stage : (h : Keeping) (x : ℕ) → (with_octet h x).reader.stage ≡ Octet
-unfolding with_octet
 kept_stage h x = by_test (ltb h.reader.count (length h.out)) (λ t. simp t) (λ t. simp t)
 
 kept_room : (n : ℕ) (m : Bool) (out : List ℕ) (x : ℕ) → n < length out → with_octet (keeping (behind n m) out) x ≡ keeping (behind (suc n) m) (set out n x)
-unfolding with_octet
 kept_room n m out x room = rw (lt-ltb _ _ room, add-one)
 
 kept_full : (n : ℕ) (m : Bool) (out : List ℕ) (x : ℕ) → length out ≤ n → with_octet (keeping (behind n m) out) x ≡ keeping (behind n true) out
-unfolding with_octet
 kept_full n m out x full = rw (le-ltb _ _ full)
 
 -- where there is room for all

@@ -8,15 +8,15 @@ use Rattle.octets.proofs.LawsLists.{drop_next}
 use Rattle.lines.specs.Line.{shown, line_of}
 
 pub line_next : (xs : List ℕ) (i : ℕ) → i < length xs
-    → line_of (drop i xs) ≡ shown (get_or xs i 0) (length xs - (i + 1)) ++ line_of (drop (i + 1) xs)
+    → line_of (drop i xs) ≡ shown (get_or xs i 0) (length xs - i - 1) ++ line_of (drop (i + 1) xs)
 unfolding line_of
-line_next xs i h = rw (drop_next xs i h, length-drop)
+line_next xs i h = let left : length xs - (i + 1) ≡ length xs - i - 1 = omega arith in rw (drop_next xs i h, length-drop, left)
 
 pub line_done : (xs : List ℕ) (i : ℕ) → length xs ≤ i → line_of (drop i xs) ≡ []
 unfolding line_of
 line_done xs i h = ap line_of (drop_of_length-le xs h)
 
 pub line_length : (xs : List ℕ) → length (line_of xs) ≡ 3 * length xs
-unfolding line_of shown
+unfolding line_of
 line_length [] = refl
 line_length (x ∷ xs) = omega (arith, line_length xs)

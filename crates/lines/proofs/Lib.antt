@@ -1,6 +1,4 @@
 pub mod LawsLines
-pub mod LawsDigits
-pub mod LawsReading
 pub mod LawsSpelling
 pub mod LawsKeeping
 pub mod ReadsSpelled

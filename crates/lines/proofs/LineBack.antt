@@ -5,9 +5,10 @@ use Prim.Native.Nat.{ℕ, suc, ◌/◌, ◌%◌, ◌<◌, ◌≤◌}
 use native.Mathlib.Omega.{arith}
 use borrow.Author.Tests.{ne_eqb}
 use lib.ListN.{length, drop, get_or}
+use Rattle.std.specs.Prelude.{Some}
 use Rattle.octets.specs.Octets.{Octets as AreOctets}
 use Rattle.lines.specs.declared.reader.HexLine.TheVariants.{Octets}
-use Rattle.lines.specs.Line.{digits, separator, shown, line_of}
+use Rattle.lines.specs.Line.{digits, separator, line_of}
 use Rattle.lines.specs.Spelling.{space, line_end, lower, Two, Spells, last, spaced}
 use Rattle.lines.specs.Reader.{outcome, read_line}
 use Rattle.lines.proofs.ReadsSpelled.{reads_spelled}
@@ -22,11 +23,10 @@ two_digits : (x : ℕ) → x < 256 → Two (get_or digits (x / 16) 0) (get_or di
 two_digits x h = record { high = lower (omega arith) refl; low = lower (omega arith) refl }
 
 between : (n : ℕ) → separator (suc n) ≡ space
-unfolding separator
 between n = rw (ne_eqb (suc n) 0 (λ e. omega arith))
 
 pub line_back : (x : ℕ) (xs : List ℕ) → AreOctets (x ∷ xs) → Printed (x ∷ xs)
-unfolding line_of shown separator
+unfolding line_of
 line_back x [] o =
     record { text = get_or digits (x / 16) 0 ∷ get_or digits (x % 16) 0 ∷ []; spells = last (two_digits x (o 0)); whole = refl }
 line_back x (y ∷ ys) o =
@@ -40,5 +40,5 @@ line_back x (y ∷ ys) o =
     }
 
 pub line_read : (x : ℕ) (xs : List ℕ) (o : AreOctets (x ∷ xs)) (out : List ℕ) → length (x ∷ xs) ≤ length out
-    → read_line (line_back x xs o).text out ≡ outcome (Octets (length (x ∷ xs))) ((x ∷ xs) ++ drop (length (x ∷ xs)) out)
+    → read_line (line_back x xs o).text out ≡ outcome (Some (Octets (length (x ∷ xs)))) ((x ∷ xs) ++ drop (length (x ∷ xs)) out)
 line_read x xs o out room = reads_spelled (line_back x xs o).spells out room

@@ -8,11 +8,12 @@ use native.Mathlib.Omega.{arith}
 use native.Mathlib.Nat.{zero-add}
 use lib.ListN.{length, take, drop, get_or, take-append-drop, drop_of_length-le}
 use lib.Seq.{sets, length-take-le, drop-cons}
+use Rattle.std.specs.Prelude.{Some}
 use Rattle.octets.proofs.LawsWriting.{sets_front}
 use Rattle.lines.specs.declared.reader.Stage.TheVariants.{Space}
 use Rattle.lines.specs.declared.reader.HexLine.TheVariants.{Octets, More}
 use Rattle.lines.specs.Spelling.{space, Spells, none, last, joined, spaced}
-use Rattle.lines.specs.Reader.{fresh, at, Keeping, keeping, with_octet, step_from, reading, good_line, answer_at, outcome, at_end, read_line}
+use Rattle.lines.specs.Reader.{fresh, at, Keeping, keeping, with_octet, step_from, reading, outcome, at_end, read_line}
 use Rattle.lines.proofs.LawsSpelling.{Open, two_letters, kept_at}
 use Rattle.lines.proofs.LawsKeeping.{behind, kept_stage, all_kept, more_told}
 
@@ -21,12 +22,10 @@ kept_open : (h : Keeping) (x : ℕ) → Open (with_octet h x).reader.stage
 kept_open h x = subst Open (sym (kept_stage h x)) tt
 
 over_space : (h : Keeping) (x : ℕ) → step_from (with_octet h x).reader.stage (with_octet h x) space ≡ keeping (at (with_octet h x).reader Space) (with_octet h x).out
-unfolding step_from
 over_space h x = ap (λ p. step_from p (with_octet h x) space) (kept_stage h x)
 
 -- the reader keeps what is spelled
 keeps : {text ys : List ℕ} {y : ℕ} → Spells text (y ∷ ys) → (h : Keeping) → Open h.reader.stage → reading h text ≡ foldl with_octet h (y ∷ ys)
-unfolding reading
 keeps (last t) h o = two_letters h o t
 keeps (joined {x = x} {text = text} t s) h o = ap (λ g. reading g text) (two_letters h o t) ∙ keeps s (with_octet h x) (kept_open h x)
 keeps (spaced {x = x} {y = y} {text = text} {ys = ys} t s) h o =
@@ -36,7 +35,6 @@ keeps (spaced {x = x} {y = y} {text = text} {ys = ys} t s) h o =
 
 -- at the start of a line
 from_fresh : (out : List ℕ) (x : ℕ) (xs : List ℕ) → foldl with_octet (keeping fresh out) (x ∷ xs) ≡ foldl with_octet (keeping (behind 0 false) out) (x ∷ xs)
-unfolding with_octet
 from_fresh out x xs = refl
 
 front_kept : (xs out : List ℕ) → length xs ≤ length out
@@ -46,8 +44,7 @@ front_kept xs out room =
     all_kept xs 0 false out (rw z room) ∙ ap (λ k. keeping (behind k false) (sets out 0 xs)) z ∙ ap (keeping (behind (length xs) false)) (sets_front xs out room)
 
 pub reads_spelled : {text xs : List ℕ} → Spells text xs → (out : List ℕ) → length xs ≤ length out
-    → read_line text out ≡ outcome (Octets (length xs)) (xs ++ drop (length xs) out)
-unfolding read_line reading answer_at good_line
+    → read_line text out ≡ outcome (Some (Octets (length xs))) (xs ++ drop (length xs) out)
 reads_spelled {xs = []} none out room = refl
 reads_spelled {xs = x ∷ xs} s out room = ap at_end (keeps s (keeping fresh out) tt ∙ from_fresh out x xs ∙ front_kept (x ∷ xs) out room)
 
@@ -72,7 +69,6 @@ module _ (xs out : List ℕ) (most : length out < length xs) where
       ∙ more_told (get_or xs (length out) 0) (drop (suc (length out)) xs) (length out) false kept-first (omega (arith, size))
 
 pub reads_first : {text xs : List ℕ} → Spells text xs → (out : List ℕ) → length out < length xs
-    → read_line text out ≡ outcome (More (length out)) (take (length out) xs)
-unfolding read_line reading answer_at good_line
+    → read_line text out ≡ outcome (Some (More (length out))) (take (length out) xs)
 reads_first {xs = []} s out most = absurd (omega arith)
 reads_first {xs = x ∷ xs} s out most = ap at_end (keeps s (keeping fresh out) tt ∙ from_fresh out x xs ∙ overflowed (x ∷ xs) out most)

@@ -2,15 +2,15 @@
 use Rattle.std.specs.Prelude.{cond, List, [], ◌∷◌, ◌++◌, ℕ, ◌/◌, ◌%◌, eqb, length, get_or}
 
 -- 0 to 9 and a to f
-unfoldable pub digits : List ℕ
+abbrev pub digits : List ℕ
 digits =
     0x30 ∷ 0x31 ∷ 0x32 ∷ 0x33 ∷ 0x34 ∷ 0x35 ∷ 0x36 ∷ 0x37 ∷ 0x38 ∷ 0x39 ∷ 0x61 ∷ 0x62 ∷ 0x63 ∷ 0x64 ∷ 0x65 ∷ 0x66 ∷ []
 
 -- behind an octet a space, and behind the last, where none is left, the end of the line
-unfoldable pub separator : ℕ → ℕ
+abbrev pub separator : ℕ → ℕ
 separator left = cond (eqb left 0) 0x0a 0x20
 
-unfoldable pub shown : ℕ → ℕ → List ℕ
+abbrev pub shown : ℕ → ℕ → List ℕ
 shown x left = get_or digits (x / 16) 0 ∷ get_or digits (x % 16) 0 ∷ separator left ∷ []
 
 -- each octet of a body so, end to end; of no octets, nothing

@@ -11,12 +11,13 @@ const DIGITS: [u8; 16] = *b"0123456789abcdef";
 fn shown(octet: u8, left: usize) -> [u8; 3]
     ensures { result ≡ shown octet left }
 {
-    let high = DIGITS[(octet / 16) as usize];
-    let low = DIGITS[(octet % 16) as usize];
+    let high = DIGITS[usize::from(octet / 16)];
+    let low = DIGITS[usize::from(octet % 16)];
     if left == 0 {
-        return [high, low, b'\n'];
+        [high, low, b'\n']
+    } else {
+        [high, low, b' ']
     }
-    [high, low, b' ']
 }
 
 // Writes a body's line from the front of `out` and returns how many letters it has.
@@ -24,12 +25,9 @@ pub fn write_line(body: &[u8], out: &mut [u8]) -> usize
     requires { 3 * length body.now ≤ length out.old }
     ensures { Wrote out.old out.new 0 result (line_of body.now) }
 {
-    let mut i: usize = 0;
-    let mut next: usize = 0;
-    while i < body.len() {
-        let octet = body[i];
-        i += 1;
-        next = write_octets(out, next, &shown(octet, body.len() - i));
+    let mut next = 0;
+    for (i, octet) in body.iter().enumerate() {
+        next = write_octets(out, next, &shown(*octet, body.len() - i - 1));
     }
     next
 }

@@ -23,33 +23,29 @@ pub struct LineReader {
     pub stage: Stage,
     // How many octets are kept, from the front of the lent space.
     pub count: usize,
-    // There was no room for all.
+    // There was no room for all. A flag: the count goes on by itself where a later piece comes with more room, so an enum of the two is no
+    // plainer.
     pub more: bool,
 }
 
-// What a line comes to.
+// What a line that spells octets comes to.
 #[derive(Clone, Copy)]
 pub enum HexLine {
-    // It spells so many octets, and all are kept.
+    // So many octets, and all are kept.
     Octets(usize),
     // So many are kept, and the line spells more.
     More(usize),
-    // The text is no spelling of octets. Those before the fault may be kept.
-    NoOctets,
 }
 
-// What is no digit has this value.
-const NO_DIGIT: u8 = 16;
-
 // The value of a digit in lower or upper case.
-fn digit_of(letter: u8) -> u8
+fn digit_of(letter: u8) -> Option<u8>
     ensures { result ≡ digit_of letter }
 {
     match letter {
-        b'0'..=b'9' => letter - b'0',
-        b'a'..=b'f' => letter - b'a' + 10,
-        b'A'..=b'F' => letter - b'A' + 10,
-        _ => NO_DIGIT,
+        b'0'..=b'9' => Some(letter - b'0'),
+        b'a'..=b'f' => Some(letter - b'a' + 10),
+        b'A'..=b'F' => Some(letter - b'A' + 10),
+        _ => None,
     }
 }
 
@@ -68,30 +64,25 @@ impl LineReader {
     fn at(self, stage: Stage) -> LineReader
         ensures { result ≡ at self stage }
     {
-        LineReader {
-            stage,
-            count: self.count,
-            more: self.more,
-        }
+        LineReader { stage, ..self }
     }
 
     // An octet is kept where there is room for it.
     fn keep(self, octet: u8, out: &mut [u8]) -> LineReader
         ensures { keeping result out.new ≡ with_octet (keeping self out.old) octet }
     {
-        let count = self.count;
-        if count < out.len() {
-            out[count] = octet;
-            return LineReader {
-                stage: Stage::Octet,
-                count: count + 1,
-                more: self.more,
-            };
-        }
-        LineReader {
-            stage: Stage::Octet,
-            count,
-            more: true,
+        let reader = self.at(Stage::Octet);
+        if self.count < out.len() {
+            out[self.count] = octet;
+            LineReader {
+                count: self.count + 1,
+                ..reader
+            }
+        } else {
+            LineReader {
+                more: true,
+                ..reader
+            }
         }
     }
 
@@ -99,39 +90,30 @@ impl LineReader {
     fn first_digit(self, letter: u8) -> LineReader
         ensures { result ≡ first self letter }
     {
-        let digit = digit_of(letter);
-        if digit < NO_DIGIT {
-            return self.at(Stage::Half(digit));
+        match digit_of(letter) {
+            Some(high) => self.at(Stage::Half(high)),
+            None => self.at(Stage::Wrong),
         }
-        self.at(Stage::Wrong)
     }
 
     // The second digit of an octet, behind the first one.
     fn second_digit(self, high: u8, letter: u8, out: &mut [u8]) -> LineReader
         ensures { keeping result out.new ≡ second (keeping self out.old) high letter }
     {
-        let digit = digit_of(letter);
-        if digit < NO_DIGIT {
-            return self.keep(high % 16 * 16 + digit, out);
+        match digit_of(letter) {
+            Some(low) => self.keep(high % 16 * 16 + low, out),
+            None => self.at(Stage::Wrong),
         }
-        self.at(Stage::Wrong)
     }
 
     // One letter.
     fn step(self, letter: u8, out: &mut [u8]) -> LineReader
         ensures { keeping result out.new ≡ step (keeping self out.old) letter }
     {
-        let stage = self.stage;
-        match stage {
-            Stage::Start => self.first_digit(letter),
+        match self.stage {
             Stage::Half(high) => self.second_digit(high, letter, out),
-            Stage::Octet => {
-                if letter == b' ' {
-                    return self.at(Stage::Space);
-                }
-                self.first_digit(letter)
-            }
-            Stage::Space => self.first_digit(letter),
+            Stage::Octet if letter == b' ' => self.at(Stage::Space),
+            Stage::Start | Stage::Octet | Stage::Space => self.first_digit(letter),
             Stage::Wrong => self,
         }
     }
@@ -141,10 +123,8 @@ impl LineReader {
         ensures { keeping result out.new ≡ reading (keeping self out.old) text.now }
     {
         let mut reader = self;
-        let mut i: usize = 0;
-        while i < text.len() {
-            reader = reader.step(text[i], out);
-            i += 1;
+        for letter in text {
+            reader = reader.step(*letter, out);
         }
         reader
     }
@@ -154,30 +134,26 @@ impl LineReader {
         ensures { result ≡ good_line self }
     {
         if self.more {
-            return HexLine::More(self.count);
+            HexLine::More(self.count)
+        } else {
+            HexLine::Octets(self.count)
         }
-        HexLine::Octets(self.count)
     }
 
-    // The line has ended.
-    pub fn finish(self) -> HexLine
+    // The line has ended. None where the text is no spelling of octets; those before the fault may be kept.
+    pub fn finish(self) -> Option<HexLine>
         ensures { result ≡ answer_of self }
     {
-        let stage = self.stage;
-        match stage {
-            Stage::Start => self.good_line(),
-            Stage::Half(_) => HexLine::NoOctets,
-            Stage::Octet => self.good_line(),
-            Stage::Space => HexLine::NoOctets,
-            Stage::Wrong => HexLine::NoOctets,
+        match self.stage {
+            Stage::Start | Stage::Octet => Some(self.good_line()),
+            _ => None,
         }
     }
 }
 
 // A whole line, without its end.
-pub fn read_line(text: &[u8], out: &mut [u8]) -> HexLine
+pub fn read_line(text: &[u8], out: &mut [u8]) -> Option<HexLine>
     ensures { outcome result out.new ≡ read_line text.now out.old }
 {
-    let reader = LineReader::fresh().read(text, out);
-    reader.finish()
+    LineReader::fresh().read(text, out).finish()
 }

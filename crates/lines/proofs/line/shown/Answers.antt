@@ -1,14 +1,8 @@
--- Each way out has the test that `separator` makes.
-use borrow.Author.Tests.{eq-eqb, ne_eqb}
-use Rattle.lines.specs.Line.{digits, separator, shown}
+use Rattle.std.proofs.Common.{rules}
 use Rattle.lines.proofs.line.shown.Goals as goal
 
 pub returns-then-left-eq0 : goal.returns-then-left-eq0
-unfolding digits separator shown
-returns-then-left-eq0 c =
-    rw (eq-eqb _ _ c.if-left-eq0.true)
+returns-then-left-eq0 c = search rules
 
-pub returns : goal.returns
-unfolding digits separator shown
-returns c =
-    rw (ne_eqb _ _ c.if-left-eq0.false)
+pub returns-else-left-eq0 : goal.returns-else-left-eq0
+returns-else-left-eq0 c = search rules
