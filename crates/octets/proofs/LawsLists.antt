@@ -1,11 +1,11 @@
 -- Laws of lists that the code's places and parts ask for.
 use mathlib.Core.Path.{◌≡◌, refl, ap}
 use mathlib.Core.List.{List, [], ◌∷◌, ◌++◌}
-use Prim.Native.Nat.{ℕ, zero, suc, ◌+◌, ◌-◌, ◌<◌}
+use Prim.Native.Nat.{ℕ, zero, suc, ◌+◌, ◌-◌, ◌<◌, ◌≤◌}
 use native.Mathlib.Omega.{arith}
 use native.Mathlib.Numerals.{add-one}
 use lib.ListN.{length, get_or, take, drop, length-drop}
-use lib.Seq.{drop-cons, get_or-drop, take_all}
+use lib.Seq.{drop-cons, get_or-drop, length-take-le, take_all}
 use Rattle.octets.specs.Octets.{Octets}
 
 pub empty : (xs : List ℕ) → length xs ≡ 0 → xs ≡ []
@@ -19,6 +19,10 @@ drop_next xs i h = rw (add-one, drop-cons xs i 0)
 -- what is left of a list, as the code's &xs[i..] cuts it
 pub take_rest : (xs : List ℕ) (i : ℕ) → take (length xs - i) (drop i xs) ≡ drop i xs
 take_rest xs i = take_all (length xs - i) (drop i xs) (omega (arith, length-drop i xs))
+
+-- a part of a list, as the code's &xs[at..at + width] cuts it
+pub part_length : (xs : List ℕ) (at width : ℕ) → at + width ≤ length xs → length (take (at + width - at) (drop at xs)) ≡ width
+part_length xs at width h = omega (arith, length-take-le (at + width - at) (drop at xs), length-drop at xs)
 
 -- what is left of a list, by its first element
 pub front : (xs : List ℕ) (at x : ℕ) (ys : List ℕ) → drop at xs ≡ x ∷ ys → (get_or xs at 0 ≡ x) × (at < length xs) × (drop (at + 1) xs ≡ ys)

@@ -1,13 +1,16 @@
 -- Laws of little-endian numbers, over the width.
-use mathlib.Core.Path.{◌≡◌, refl, sym, ap, ◌∙◌}
-use mathlib.Core.List.{List, [], ◌∷◌}
-use Prim.Native.Nat.{ℕ, zero, suc, ◌+◌, ◌*◌, ◌-◌, ◌/◌, ◌%◌, ◌^◌, ◌<◌, ◌≤◌}
+use mathlib.Core.Path.{◌≡◌, refl, ap, subst, ◌∙◌}
+use mathlib.Core.List.{List, [], ◌∷◌, ◌++◌}
+use Prim.Native.Nat.{ℕ, zero, suc, ◌+◌, ◌-◌, ◌/◌, ◌%◌, ◌^◌, ◌<◌, ◌≤◌}
 use native.Mathlib.Omega.{arith}
 use native.Mathlib.Nat.{pow-succ', pow-le-pow_right}
-use lib.ListN.{length, get_or, take, drop, set, length-drop, drop_of_length-le}
-use lib.Seq.{sets, drop-cons, drop-drop, get_or-take, get_or-drop, length-take-le}
+use native.Mathlib.Numerals.{add-one}
+use lib.ListN.{length, take, drop, set, length-append}
+use Rattle.std.proofs.lemmas.List.{length-take, length_push}
+use lib.Seq.{sets, drop-drop}
 use Rattle.octets.specs.Octets.{Octets}
 use Rattle.octets.specs.LittleEndian.{le, le_at, le_octets}
+use Rattle.octets.proofs.LawsWriting.{sets_whole}
 use Rattle.octets.proofs.LawsLists.{octets_drop, octets_take}
 
 pub length_le : (width n : ℕ) → length (le_octets width n) ≡ width
@@ -26,51 +29,38 @@ le_bound (x ∷ xs) o =
 
 -- ---- reading the octets of a part from the last to the first
 
-module _ (s : List ℕ) (at width : ℕ) (fits : at + width ≤ length s) where
-  part_length : length (take width (drop at s)) ≡ width
-  part_length = length-take-le width (drop at s) (omega (arith, length-drop at s))
+octets_behind : (xs ys : List ℕ) → Octets (xs ++ ys) → Octets ys
+octets_behind [] ys o = o
+octets_behind (x ∷ xs) ys o = octets_behind xs ys (λ k. o (suc k))
 
-  -- one octet more, before those from i on
-  pub le_step : (i n : ℕ) → 0 < i → i ≤ width → n ≡ le (drop i (take width (drop at s)))
-      → n * 256 + get_or s (at + (i - 1)) 0 ≡ le (drop (i - 1) (take width (drop at s)))
-  unfolding le
-  le_step i n pos most e =
-      let part : List ℕ = take width (drop at s) in
-      let up : suc (i - 1) ≡ i = omega arith in
-      let one : le (drop (i - 1) part) ≡ get_or part (i - 1) 0 + 256 * le (drop (suc (i - 1)) part) =
-      ap le (drop-cons part (i - 1) 0 (omega (arith, part_length))) in
-      let here : get_or part (i - 1) 0 ≡ get_or s (at + (i - 1)) 0 = get_or-take width (drop at s) (i - 1) 0 (omega arith) ∙ get_or-drop at s (i - 1) 0 in
-      let same : le (drop (suc (i - 1)) part) ≡ n = ap (λ k. le (drop k part)) up ∙ sym e in
-      omega arith
-
-  -- where an octet is left, at most three were read, so that one more does not wrap
-  pub le_small : Octets s → (i n : ℕ) → 0 < i → width ≤ 4 → n ≡ le (drop i (take width (drop at s))) → n < 256 ^ 3
-  le_small o i n pos most e =
-      let part : List ℕ = take width (drop at s) in
-      let low : le (drop i part) < 256 ^ length (drop i part) = le_bound (drop i part) (octets_drop i part (octets_take width (drop at s) (octets_drop at s o))) in
-      let few : length (drop i part) ≤ 3 = omega (arith, length-drop i part, part_length) in
-      let more : 256 ^ length (drop i part) ≤ 256 ^ 3 = pow-le-pow_right (omega arith) few in
-      rw e (omega arith)
-
-  -- at first nothing is read
-  pub le_none : 0 ≡ le (drop width (take width (drop at s)))
-  unfolding le
-  le_none = sym (ap le (drop_of_length-le (take width (drop at s)) {i = width} (omega (arith, part_length))))
+-- where an octet of at most four is left, at most three were read, so that one more does not wrap
+pub le_small : (s : List ℕ) (at width : ℕ) (xs read : List ℕ) (x : ℕ) → Octets s → width ≤ 4 → take width (drop at s) ≡ (xs ++ x ∷ []) ++ read
+    → le read < 256 ^ 3
+le_small s at width xs read x o most e =
+    let part : Octets ((xs ++ x ∷ []) ++ read) = subst Octets e (octets_take width (drop at s) (octets_drop at s o)) in
+    let low : le read < 256 ^ length read = le_bound read (octets_behind (xs ++ x ∷ []) read part) in
+    let few : length read ≤ 3 = omega (arith, ap length e, length-take width (drop at s), length-append (xs ++ x ∷ []) read, length_push xs x) in
+    let more : 256 ^ length read ≤ 256 ^ 3 = pow-le-pow_right (omega arith) few in
+    omega arith
 
 -- ---- writing from the first octet to the last
 
 -- what is left to write, with its first octet written
-pub le_put : (l : List ℕ) (at i width n : ℕ) → i < width
-    → sets (set l (at + i) (n % 256)) (at + (i + 1)) (le_octets (width - (i + 1)) (n / 256)) ≡ sets l (at + i) (le_octets (width - i) n)
+pub le_put : (l : List ℕ) (i width n : ℕ) → i < width
+    → sets (set l i (n % 256)) (i + 1) (le_octets (width - (i + 1)) (n / 256)) ≡ sets l i (le_octets (width - i) n)
 unfolding le_octets
-le_put l at i width n h =
+le_put l i width n h =
     let one : width - i ≡ suc (width - (i + 1)) = omega arith in
-    let next : at + (i + 1) ≡ suc (at + i) = omega arith in
-    rw (one, next)
+    rw (one, add-one)
 
-pub le_done : (l : List ℕ) (at k n : ℕ) → k ≡ 0 → sets l at (le_octets k n) ≡ l
+-- a part that was written whole is what was written
+pub le_whole : (l part : List ℕ) (i width n m : ℕ) → width ≤ i → length part ≡ width
+    → sets l i (le_octets (width - i) m) ≡ sets part 0 (le_octets width n) → l ≡ le_octets width n
 unfolding le_octets
-le_done l at k n e = rw e
+le_whole l part i width n m done size e =
+    let none : width - i ≡ 0 = omega arith in
+    let written : l ≡ sets part 0 (le_octets width n) = rw none at e in
+    written ∙ sets_whole (le_octets width n) part (omega (arith, length_le width n))
 
 -- ---- what stands from a place on
 

@@ -1,11 +1,16 @@
 -- Laws of a test at every place: how a loop goes on, stops and ends, and what it tells of a place.
-use mathlib.Core.Path.{◌≡◌, refl, ◌∙◌}
+use mathlib.Core.Path.{◌≡◌, refl, ap, ◌∙◌}
 use mathlib.Core.Bool.{Bool, true, false, ◌&&◌}
 use Prim.Native.Nat.{ℕ, zero, suc, ◌+◌, ◌-◌, ◌≤◌, ◌<◌}
 use native.Mathlib.Omega.{arith}
 use native.Mathlib.Nat.{add-zero, zero-add}
 use native.Mathlib.Numerals.{add-one}
-use Rattle.octets.specs.Scanning.{all_from, all_below}
+use mathlib.Core.List.{List}
+use lib.Dec.{eqb}
+use lib.ListN.{length, get_or, drop, drop_of_length-le}
+use lib.Seq.{drop-cons}
+use Rattle.std.specs.List.{list_all}
+use Rattle.octets.specs.Scanning.{all_from, all_below, zeros_from}
 use Rattle.octets.proofs.LawsTests.{and_l, and_r, both}
 
 module _ (test : ℕ → Bool) (n i : ℕ) where
@@ -47,3 +52,16 @@ all_at n test t k h = rw (zero-add k) at (from_at test 0 n t k h)
 pub all_of : (n : ℕ) (test : ℕ → Bool) → ((k : ℕ) → k < n → test k ≡ true) → all_below n test ≡ true
 unfolding all_below
 all_of n test t = from_all test 0 n (λ k l h. t k (omega arith))
+
+-- ---- in the library's words
+
+zeros_left : (xs : List ℕ) (n from : ℕ) → n ≡ length xs - from → all_from (λ i. eqb (get_or xs i 0) 0) from n ≡ list_all (λ x. eqb x 0) (drop from xs)
+unfolding all_from
+zeros_left xs zero from e = rw (drop_of_length-le xs {i = from} (omega arith))
+zeros_left xs (suc n) from e =
+    let h : from < length xs = omega arith in
+    rw (drop-cons xs from 0) (ap (λ t. eqb (get_or xs from 0) 0 && t) (zeros_left xs n (suc from) (omega arith)))
+
+pub zeros_is : (xs : List ℕ) (from : ℕ) → zeros_from from xs ≡ list_all (λ x. eqb x 0) (drop from xs)
+unfolding zeros_from
+zeros_is xs from = zeros_left xs (length xs - from) from refl

@@ -6,24 +6,11 @@ ghost use Rattle.octets.specs.Comparing.{common_front, is_same};
 pub fn common_front(a: &[u8], b: &[u8]) -> usize
     ensures { result ≡ common_front a.now b.now }
 {
-    let mut at: usize = 0;
-    while at < a.len() {
-        if b.len() <= at {
-            return at;
-        }
-        if a[at] != b[at] {
-            return at;
-        }
-        at += 1;
-    }
-    at
+    a.iter().zip(b).take_while(|(x, y)| **x == **y).count()
 }
 
 pub fn same_octets(a: &[u8], b: &[u8]) -> bool
     ensures { result ≡ is_same a.now b.now }
 {
-    if a.len() != b.len() {
-        return false;
-    }
-    common_front(a, b) == a.len()
+    a == b
 }

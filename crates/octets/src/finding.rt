@@ -7,12 +7,7 @@ pub fn find_octet(octets: &[u8], from: usize, octet: u8) -> usize
     requires { from ≤ length octets.now }
     ensures { result ≡ from + before octet (drop from octets.now) }
 {
-    let mut at = from;
-    while at < octets.len() {
-        if octets[at] == octet {
-            return at;
-        }
-        at += 1;
-    }
-    at
+    let rest = &octets[from..];
+    let passed = rest.iter().position(|other| *other == octet);
+    from + passed.unwrap_or(rest.len())
 }

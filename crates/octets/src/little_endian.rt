@@ -9,11 +9,8 @@ pub fn read_le(octets: &[u8], at: usize, width: usize) -> u32
     ensures { result ≡ le_at octets.now at width }
 {
     let mut n: u32 = 0;
-    let mut i = width;
-    while 0 < i {
-        i -= 1;
-        let octet = octets[at + i] as u32;
-        n = n * 256 + octet;
+    for octet in octets[at..at + width].iter().rev() {
+        n = n * 256 + u32::from(*octet);
     }
     n
 }
@@ -24,11 +21,9 @@ pub fn write_le(out: &mut [u8], at: usize, n: u32, width: usize) -> usize
     ensures { Wrote out.old out.new at result (le_octets width n) }
 {
     let mut rest = n;
-    let mut i: usize = 0;
-    while i < width {
-        out[at + i] = (rest % 256) as u8;
-        rest = rest / 256;
-        i += 1;
+    for place in out[at..at + width].iter_mut() {
+        *place = (rest % 256) as u8;
+        rest /= 256;
     }
     at + width
 }

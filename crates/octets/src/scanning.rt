@@ -7,12 +7,5 @@ pub fn is_zero_from(octets: &[u8], from: usize) -> bool
     requires { from ≤ length octets.now }
     ensures { result ≡ zeros_from from octets.now }
 {
-    let mut at = from;
-    while at < octets.len() {
-        if octets[at] != 0 {
-            return false;
-        }
-        at += 1;
-    }
-    true
+    octets[from..].iter().all(|octet| *octet == 0)
 }

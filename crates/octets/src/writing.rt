@@ -1,4 +1,5 @@
 // A writer puts octets into lent space from a place on and returns the place after them.
+// Space and place stay two parameters: `Wrote` tells of both, and the promise of these calls stands as it is (docs/PROMISES.md).
 ghost use Rattle.std.specs.Prelude.{[], ◌∷◌, ◌+◌, ◌≤◌, ◌<◌, length};
 ghost use Rattle.octets.specs.Writing.{Wrote};
 
@@ -14,11 +15,6 @@ pub fn write_octets(out: &mut [u8], at: usize, octets: &[u8]) -> usize
     requires { at + length octets.now ≤ length out.old }
     ensures { Wrote out.old out.new at result octets.now }
 {
-    let count = octets.len();
-    let mut i: usize = 0;
-    while i < count {
-        out[at + i] = octets[i];
-        i += 1;
-    }
-    at + count
+    out[at..at + octets.len()].copy_from_slice(octets);
+    at + octets.len()
 }

@@ -1,34 +1,22 @@
 -- The invariant: what is left, put at the place reached, gives the whole.
-use mathlib.Core.Path.{refl, sym, ◌∙◌}
-use Prim.Native.Nat.{◌+◌, ◌-◌}
+use mathlib.Core.Path.{◌∙◌}
 use native.Mathlib.Omega.{arith}
-use native.Mathlib.Nat.{add-zero, sub-zero}
-use lib.ListN.{length-set}
-use Rattle.octets.proofs.LawsLittleEndian.{length_le, le_put, le_done}
+use Rattle.octets.proofs.LawsLists.{part_length}
+use Rattle.octets.proofs.LawsLittleEndian.{length_le, le_put, le_whole}
+use Rattle.octets.proofs.LawsWriting.{put_part}
 use Rattle.octets.proofs.little_endian.write_le.Goals as goal
 
-pub loop-i-init : goal.loop-i-init
-loop-i-init c =
-    (omega arith, refl, rw (add-zero, sub-zero))
-
-pub loop-i-preserved : goal.loop-i-preserved
-loop-i-preserved c =
-    let w = c.loop-i in
-    let a = c.args in (
-      omega arith,
-      length-set w.out (a.at + w.i) _ ∙ w.invariant.1,
-      le_put w.out a.at w.i a.width w.rest c.loop-i-test.true ∙ w.invariant.2,
-    )
-
-pub shape_of-out : goal.shape_of-out
-shape_of-out c =
-    c.loop-i.invariant.1
+pub loop-place-preserved : goal.loop-place-preserved
+loop-place-preserved c =
+    let w = c.loop-place in
+    let a = c.args in
+    le_put w.place-items w.place-index c.args.width w.rest (omega (arith, part_length a.out.now a.at a.width c.requires)) ∙ w.invariant
 
 pub returns : goal.returns
 returns c =
-    let w = c.loop-i in
+    let w = c.loop-place in
     let a = c.args in
-    record {
-      held = sym (le_done w.out (a.at + w.i) (a.width - w.i) w.rest (omega arith)) ∙ w.invariant.2;
-      end = omega (arith, length_le a.width a.n);
-    }
+    let size = part_length a.out.now a.at a.width c.requires in
+    let count = length_le a.width a.n in
+    let whole = le_whole w.place-items _ w.place-index a.width a.n w.rest (omega arith) size w.invariant in
+    record { held = put_part a.out.now a.at _ _ _ whole (omega arith) (omega arith); end = omega arith }

@@ -1,29 +1,18 @@
--- The invariant: what is left is as the whole.
-use mathlib.Core.Path.{refl, sym, ◌∙◌}
-use native.Mathlib.Omega.{arith}
-use borrow.Author.Tests.{eq-eqb, ne_eqb}
-use lib.ListN.{length, get_or}
-use Rattle.octets.specs.Scanning.{zeros_from}
-use Rattle.octets.proofs.LawsScanning.{scan_on, scan_stop, scan_end}
+-- The chain's test of each octet is the definition's of each place.
+use mathlib.Core.Path.{sym, ◌∙◌}
+use lib.Dec.{eqb}
+use lib.ListN.{drop}
+use Rattle.std.proofs.Common.{rules}
+use borrow.Author.Tests.{tests}
+use Rattle.std.proofs.lemmas.Iterator.{YieldsList-from_slice}
+use Rattle.std.proofs.lemmas.Iterator.Search.{all_from_yields_List}
+use Rattle.octets.proofs.LawsLists.{take_rest}
+use Rattle.octets.proofs.LawsScanning.{zeros_is}
 use Rattle.octets.proofs.scanning.is_zero_from.Goals as goal
 
-pub loop-at-init : goal.loop-at-init
-loop-at-init c =
-    (omega arith, refl)
-
-pub returns-then-octets-at-ne0 : goal.returns-then-octets-at-ne0
-unfolding zeros_from
-returns-then-octets-at-ne0 c =
-    let xs = c.args.octets.now in
-    sym (c.loop-at.invariant.1 ∙ scan_stop _ (length xs) c.loop-at.at (omega arith) (ne_eqb (get_or xs c.loop-at.at 0) 0 (λ z. omega arith)))
-
-pub loop-at-preserved : goal.loop-at-preserved
-unfolding zeros_from
-loop-at-preserved c =
-    let xs = c.args.octets.now in
-    (omega arith, c.loop-at.invariant.1 ∙ scan_on _ (length xs) c.loop-at.at (omega arith) (eq-eqb (get_or xs c.loop-at.at 0) 0 (omega arith)))
-
 pub returns : goal.returns
-unfolding zeros_from
 returns c =
-    sym (c.loop-at.invariant.1 ∙ scan_end _ (length c.args.octets.now) c.loop-at.at (omega arith))
+    let a = c.args in
+    all_from_yields_List (λ x. eqb x 0) _ _ c.all.result c.all.ensures.ran
+    (YieldsList-from_slice (drop a.from a.octets.now) (cc (take_rest a.octets.now a.from)))
+    (λ x b q k. search (rules, tests)) ∙ sym (zeros_is a.octets.now a.from)
