@@ -11,8 +11,9 @@ use lib.ListN.{length}
 use Rattle.octets.proofs.LawsTests.{by_test, impossible}
 use Rattle.typestring.specs.declared.kind.ItemKind.{ItemKind}
 use Rattle.typestring.specs.declared.kind.ItemKind.TheVariants as kind
+use Rattle.std.specs.Prelude.{Option, Some, None}
 use Rattle.typestring.specs.Kind.{kind_of}
-use Rattle.typestring.specs.Grammar.{Item, Items, value, rest, struct, array, end, more, print, print_item, final, Some, ItemRules, PartRules, TypeString, max_open, max_octets}
+use Rattle.typestring.specs.Grammar.{Item, Items, value, rest, struct, array, end, more, print, print_item, final, HasItem, ItemRules, PartRules, TypeString, max_open, max_octets}
 use Rattle.typestring.specs.Parse.{Parsed, malformed, parsed, Head, no_item, one, ends_part, passed, inside, headed, item_of, item_in, joined, follow, part_in, part_at, item_at, whole, type_of, is_type}
 use Rattle.typestring.proofs.LawsKinds.{letter_of}
 use Rattle.typestring.proofs.LawsGrammar.{bracket_shut, end_shut, item_open}
@@ -25,7 +26,7 @@ abbrev PartIs : ℕ → Bool → List ℕ → Items → List ℕ → Type 0
 PartIs left a s t r = (s ≡ print t ++ r) × PartRules t left a × (ends_part r ≡ true)
 
 abbrev Brackets : ℕ → Bool → List ℕ → Items → List ℕ → Type 0
-Brackets left a s t r = (s ≡ 40 ∷ (print t ++ 41 ∷ r)) × (0 < left) × Some t × PartRules t (left - 1) a
+Brackets left a s t r = (s ≡ 40 ∷ (print t ++ 41 ∷ r)) × (0 < left) × HasItem t × PartRules t (left - 1) a
 
 abbrev ItemIs : ℕ → Bool → List ℕ → Item → List ℕ → Type 0
 ItemIs left a s i r = (s ≡ print_item i ++ r) × ItemRules i left a
@@ -71,25 +72,25 @@ module _ (part : ℕ → Bool → List ℕ → Parsed)
       go malformed h e = impossible cc
       go (parsed t q) h e = let same : q ≡ r = cc in (t, cc, h t r (ap (parsed t) same))
 
-  sound_kind : (left : ℕ) (a : Bool) (c : ℕ) (s : List ℕ) (i : Item) (r : List ℕ) (k : ItemKind) → kind_of c ≡ k → item_of part k c left a s ≡ one i r
+  sound_kind : (left : ℕ) (a : Bool) (c : ℕ) (s : List ℕ) (i : Item) (r : List ℕ) (k : Option ItemKind) → kind_of c ≡ k → item_of part k c left a s ≡ one i r
       → ItemIs left a (c ∷ s) i r
   unfolding item_of print_item ItemRules
-  sound_kind left a c s i r (kind.Value v) h e =
+  sound_kind left a c s i r (Some (kind.Value v)) h e =
       let item : value c v ≡ i = cc in
       let behind : s ≡ r = cc in
       rw (← item) (ap (λ q. c ∷ q) behind, h)
-  sound_kind left true c s i r kind.Rest h e = impossible cc
-  sound_kind left false c s i r kind.Rest h e =
+  sound_kind left true c s i r (Some kind.Rest) h e = impossible cc
+  sound_kind left false c s i r (Some kind.Rest) h e =
       let item : rest ≡ i = cc in
       rw (← item) (cc (letter_of c kind.Rest h), refl)
-  sound_kind left a c s i r kind.Struct h e =
+  sound_kind left a c s i r (Some kind.Struct) h e =
       let w = sound_headed struct left false s i r e in
       rw w.1 (cc (letter_of c kind.Struct h, w.2.0, append_assoc (print w.0) (41 ∷ []) r), (w.2.1, w.2.2, w.2.3))
-  sound_kind left true c s i r kind.Array h e = impossible cc
-  sound_kind left false c s i r kind.Array h e =
+  sound_kind left true c s i r (Some kind.Array) h e = impossible cc
+  sound_kind left false c s i r (Some kind.Array) h e =
       let w = sound_headed array left true s i r e in
       rw w.1 (cc (letter_of c kind.Array h, w.2.0, append_assoc (print w.0) (41 ∷ []) r), (refl, w.2.1, w.2.2, w.2.3))
-  sound_kind left a c s i r kind.Other h e = impossible cc
+  sound_kind left a c s i r None h e = impossible cc
 
   sound_item : (left : ℕ) (a : Bool) (s : List ℕ) (i : Item) (r : List ℕ) → item_in part left a s ≡ one i r → ItemIs left a s i r
   unfolding item_in
@@ -164,7 +165,7 @@ sound types t r e =
 -- ---- complete
 
 -- a part in brackets is found where the part is
-found_inside : (t : Items) (left : ℕ) (a : Bool) (r : List ℕ) → 0 < left → Some t → PartRules t (left - 1) a
+found_inside : (t : Items) (left : ℕ) (a : Bool) (r : List ℕ) → 0 < left → HasItem t → PartRules t (left - 1) a
     → part_at (left - 1) a (print t ++ 41 ∷ r) ≡ parsed t (41 ∷ r) → inside part_at left a (40 ∷ ((print t ++ 41 ∷ []) ++ r)) ≡ parsed t r
 unfolding inside passed print PartRules
 found_inside t zero a r room some rules e = absurd (omega arith)

@@ -10,8 +10,9 @@ use lib.ListN.{length, get_or, drop, drop_of_length-le}
 use Rattle.octets.proofs.LawsLists.{drop_next}
 use Rattle.octets.proofs.LawsTests.{by_test, impossible}
 use Rattle.typestring.specs.declared.kind.ItemKind.{ItemKind}
-use Rattle.typestring.specs.declared.check.Scan.{Scan}
-use Rattle.typestring.specs.declared.check.Scan.TheVariants as scan
+use Rattle.std.specs.Prelude.{Option, Some, None}
+use Rattle.std.specs.Option.{option_eq}
+use Rattle.std.specs.Bool.{then_some}
 use Rattle.typestring.specs.declared.check.Step.TheVariants as step
 use Rattle.typestring.specs.Kind.{kind_of}
 use Rattle.typestring.specs.Grammar.{Item, Items, more, end, final}
@@ -22,7 +23,7 @@ use Rattle.typestring.proofs.LawsParse.{part_step}
 -- whatever a part is found to be from one place on, it is found to be from another on
 abbrev pub Onward : List ℕ → ℕ → Bool → ℕ → ℕ → Type 0
 Onward types left a next at =
-    (r : Scan) → Scanned types next (part_at left a (drop next types)) r → Scanned types at (part_at left a (drop at types)) r
+    (r : Option ℕ) → Scanned types next (part_at left a (drop next types)) r → Scanned types at (part_at left a (drop at types)) r
 
 -- a part isn't closed at the string's end
 pub more_left : (types : List ℕ) (at : ℕ) → false ≡ ends_part (drop at types) → at < length types
@@ -49,35 +50,33 @@ inside_empty (suc left) a = refl
 module _ (types : List ℕ) (left : ℕ) (a : Bool) (at : ℕ) where
   -- ---- a part
 
-  pub part_closed : at ≤ length types → true ≡ ends_part (drop at types) → Scanned types at (part_at left a (drop at types)) (scan.Upto at)
+  pub part_closed : at ≤ length types → true ≡ ends_part (drop at types) → Scanned types at (part_at left a (drop at types)) (Some at)
   part_closed h e = (omega arith, h, (end, part_step left a (drop at types) ∙ rw (← e)))
 
   module _ (goes_on : false ≡ ends_part (drop at types)) where
     part_open : {h : Head} → item_at left a (drop at types) ≡ h → part_at left a (drop at types) ≡ follow (part_at left a) h
     part_open e = part_step left a (drop at types) ∙ rw (← goes_on, e)
 
-    pub part_bad : Stepped types at (item_at left a (drop at types)) step.Bad → Scanned types at (part_at left a (drop at types)) scan.Bad
+    pub part_bad : Stepped types at (item_at left a (drop at types)) None → Scanned types at (part_at left a (drop at types)) None
     unfolding follow
     part_bad e = part_open e
 
-    pub part_last : (next : ℕ) → Stepped types at (item_at left a (drop at types)) (step.Last next) → true ≡ ends_part (drop next types)
-        → Scanned types at (part_at left a (drop at types)) (scan.Upto next)
+    pub part_last : (next : ℕ) → Stepped types at (item_at left a (drop at types)) (Some (step.Last next))
+        → Scanned types at (part_at left a (drop at types)) (then_some (ends_part (drop next types)) next)
     unfolding follow
-    part_last next (l, h, (i, e, f)) c = (omega arith, h, (more i end, part_open e ∙ rw (f, ← c)))
+    part_last next (l, h, (i, e, f)) =
+        by_test (ends_part (drop next types))
+        (λ c. rw c (omega arith, h, (more i end, part_open e ∙ rw (f, c))))
+        (λ c. rw c (part_open e ∙ rw (f, c)))
 
-    pub part_not_last : (next : ℕ) → Stepped types at (item_at left a (drop at types)) (step.Last next) → false ≡ ends_part (drop next types)
-        → Scanned types at (part_at left a (drop at types)) scan.Bad
-    unfolding follow
-    part_not_last next (l, h, (i, e, f)) c = part_open e ∙ rw (f, ← c)
-
-    pub part_next : (next : ℕ) → Stepped types at (item_at left a (drop at types)) (step.Next next) → Onward types left a next at
+    pub part_next : (next : ℕ) → Stepped types at (item_at left a (drop at types)) (Some (step.Next next)) → Onward types left a next at
     unfolding follow joined
-    part_next next (l, h, (i, e, f)) scan.Bad b = part_open e ∙ rw (f, b)
-    part_next next (l, h, (i, e, f)) (scan.Upto n) (m, k, (t, b)) = (omega arith, k, (more i t, part_open e ∙ rw (f, b)))
+    part_next next (l, h, (i, e, f)) None b = part_open e ∙ rw (f, b)
+    part_next next (l, h, (i, e, f)) (Some n) (m, k, (t, b)) = (omega arith, k, (more i t, part_open e ∙ rw (f, b)))
 
   -- ---- an item
 
-  pub item_at_lem : {r k : ItemKind} → at < length types → r ≡ kind_of (get_or types at 0) → r ≡ k
+  pub item_at_lem : {r k : Option ItemKind} → at < length types → r ≡ kind_of (get_or types at 0) → r ≡ k
       → item_at left a (drop at types) ≡ item_of part_at k (get_or types at 0) left a (drop (at + 1) types)
   unfolding item_at item_in
   item_at_lem h e k = rw (drop_next types at h, ← e, k)
@@ -102,15 +101,14 @@ module _ (types : List ℕ) (left : ℕ) (a : Bool) (at : ℕ) where
     inside_some c e = inside_at ∙ rw (eq-eqb _ _ c, ← e)
 
 -- what is found of a part in brackets tells of the brackets, and of their item
-module _ (types : List ℕ) (at next : ℕ) {p : Parsed} (found : Scanned types (at + 1) p (scan.Upto next)) where
-  pub brackets_cut : {q : Parsed} → q ≡ passed p → next ≡ length types → q ≡ malformed
+module _ (types : List ℕ) (at next : ℕ) {p : Parsed} (found : Scanned types (at + 1) p (Some next)) where
+  pub brackets_end : {q : Parsed} → q ≡ passed p → Scanned types at q (then_some (ltb next (length types)) (next + 1))
   unfolding passed
-  brackets_cut e h = e ∙ ap passed found.2.1 ∙ rw (drop_of_length-le types {i = next} (omega arith))
-
-  pub brackets_shut : {q : Parsed} → q ≡ passed p → (next ≡ length types → ⊥) → Scanned types at q (scan.Upto (next + 1))
-  unfolding passed
-  brackets_shut e h =
-      (omega arith, omega arith, (found.2.0, e ∙ ap passed found.2.1 ∙ rw (drop_next types next (omega arith))))
+  brackets_end e =
+      by_test (ltb next (length types))
+      (λ c. let here = ltb-true next (length types) c in
+      rw c (omega arith, omega arith, (found.2.0, e ∙ ap passed found.2.1 ∙ rw (drop_next types next here))))
+      (λ c. let cut = ltb-false next (length types) c in rw c (e ∙ ap passed found.2.1 ∙ rw (drop_of_length-le types {i = next} cut)))
 
   pub brackets_item : (item : Items → Item) {final-is : Bool} → ((t : Items) → final (item t) ≡ final-is)
       → {h : Head} → h ≡ headed item p
@@ -120,9 +118,10 @@ module _ (types : List ℕ) (at next : ℕ) {p : Parsed} (found : Scanned types 
 
 -- ---- the whole string
 
-pub whole_ends : (types : List ℕ) (next : ℕ) {p : Parsed} → Scanned types 0 p (scan.Upto next) → eqb next (length types) ≡ is_type (whole p)
+pub whole_ends : (types : List ℕ) (p : Parsed) (r : Option ℕ) → Scanned types 0 p r → option_eq eqb r (Some (length types)) ≡ is_type (whole p)
 unfolding whole
-whole_ends types next (l, h, (t, e)) =
+whole_ends types p None e = rw e
+whole_ends types p (Some next) (l, h, (t, e)) =
     rw e
     (by_test (eqb next (length types))
     (λ f. let here = eqb-true next (length types) f in rw (f, drop_of_length-le types {i = next} (omega arith)))

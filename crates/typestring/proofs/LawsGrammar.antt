@@ -7,6 +7,7 @@ use borrow.Author.Tests.{ne_eqb}
 use Rattle.octets.proofs.LawsTests.{impossible}
 use Rattle.typestring.specs.declared.kind.Value.{Value}
 use Rattle.typestring.specs.declared.kind.ItemKind.TheVariants as kind
+use Rattle.std.specs.Prelude.{Some, None}
 use Rattle.typestring.specs.Kind.{kind_of}
 use Rattle.typestring.specs.Grammar.{Item, Items, value, rest, struct, array, end, more, print_item, ItemRules, PartRules}
 use Rattle.typestring.specs.Parse.{ends_part}
@@ -20,7 +21,7 @@ unfolding ends_part
 end_shut = refl
 
 -- a letter is no bracket
-pub no_bracket : (letter b : ℕ) (v : Value) → kind_of letter ≡ kind.Value v → kind_of b ≡ kind.Other → letter ≡ b → ⊥
+pub no_bracket : (letter b : ℕ) (v : Value) → kind_of letter ≡ Some (kind.Value v) → kind_of b ≡ None → letter ≡ b → ⊥
 no_bracket letter b v k o e = impossible cc
 
 -- no part ends where an item stands

@@ -9,6 +9,7 @@ use Rattle.typestring.specs.declared.kind.ItemKind.{ItemKind}
 use Rattle.typestring.specs.declared.kind.ItemKind.TheVariants as kind
 use Rattle.typestring.specs.declared.kind.Value.{Value}
 use Rattle.typestring.specs.declared.kind.Value.TheVariants as value
+use Rattle.std.specs.Prelude.{Some, IfSome}
 use Rattle.typestring.specs.Kind.{kind_of}
 
 -- values take octets, and a packed integer is an i
@@ -25,9 +26,8 @@ LetterOf c (kind.Value v) = ValueLetter c v
 LetterOf c kind.Rest = c ≡ 68
 LetterOf c kind.Struct = c ≡ 116
 LetterOf c kind.Array = c ≡ 65
-LetterOf c kind.Other = Unit {0}
 
-letter_kind : (c : ℕ) → LetterOf c (kind_of c)
+letter_kind : (c : ℕ) → IfSome (kind_of c) (LetterOf c)
 unfolding kind_of
 letter_kind c =
     by_test (eqb c 98) (λ e. rw e tt) (λ e. rw e (
@@ -48,5 +48,5 @@ letter_kind c =
     by_test (eqb c 65) (λ e. rw e (eqb-true c 65 e)) (λ e. rw e (
     tt))))))))))))))))))))))))))))))))
 
-pub letter_of : (c : ℕ) (k : ItemKind) → kind_of c ≡ k → LetterOf c k
+pub letter_of : (c : ℕ) (k : ItemKind) → kind_of c ≡ Some k → LetterOf c k
 letter_of c k e = rw e at (letter_kind c)

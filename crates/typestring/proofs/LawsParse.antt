@@ -9,6 +9,7 @@ use lib.ListN.{length}
 use Rattle.octets.proofs.LawsTests.{by_test}
 use Rattle.typestring.specs.declared.kind.ItemKind.{ItemKind}
 use Rattle.typestring.specs.declared.kind.ItemKind.TheVariants as kind
+use Rattle.std.specs.Prelude.{Option, Some, None}
 use Rattle.typestring.specs.Kind.{kind_of}
 use Rattle.typestring.specs.Grammar.{Item, Items, struct, array, end, final}
 use Rattle.typestring.specs.Parse.{Parsed, malformed, parsed, Head, no_item, one, ends_part, passed, inside, headed, item_of, item_in, joined, follow, part_in, part_at, item_at}
@@ -54,15 +55,15 @@ module _ (p : Parser) (most : (left : ℕ) (a : Bool) (s : List ℕ) (n : ℕ) �
       (λ e. by_test (ends_part s) (λ f. rw (e, f) tt) (λ f. rw (e, f) (most_passed _ (p left a s) (most left a s _ (omega arith)))))
       (λ e. rw e tt)
 
-  fewer_item_of : (k : ItemKind) (letter left : ℕ) (a : Bool) (s : List ℕ) (n : ℕ) → length s < n → Fewer n (item_of p k letter left a s)
+  fewer_item_of : (k : Option ItemKind) (letter left : ℕ) (a : Bool) (s : List ℕ) (n : ℕ) → length s < n → Fewer n (item_of p k letter left a s)
   unfolding item_of
-  fewer_item_of (kind.Value v) letter left a s n h = h
-  fewer_item_of kind.Rest letter left true s n h = tt
-  fewer_item_of kind.Rest letter left false s n h = h
-  fewer_item_of kind.Struct letter left a s n h = fewer_headed struct _ n (inside p left false s) h (most_inside left false s)
-  fewer_item_of kind.Array letter left true s n h = tt
-  fewer_item_of kind.Array letter left false s n h = fewer_headed array _ n (inside p left true s) h (most_inside left true s)
-  fewer_item_of kind.Other letter left a s n h = tt
+  fewer_item_of (Some (kind.Value v)) letter left a s n h = h
+  fewer_item_of (Some kind.Rest) letter left true s n h = tt
+  fewer_item_of (Some kind.Rest) letter left false s n h = h
+  fewer_item_of (Some kind.Struct) letter left a s n h = fewer_headed struct _ n (inside p left false s) h (most_inside left false s)
+  fewer_item_of (Some kind.Array) letter left true s n h = tt
+  fewer_item_of (Some kind.Array) letter left false s n h = fewer_headed array _ n (inside p left true s) h (most_inside left true s)
+  fewer_item_of None letter left a s n h = tt
 
   fewer_item : (left : ℕ) (a : Bool) (s : List ℕ) (n : ℕ) → length s ≤ n → Fewer n (item_in p left a s)
   unfolding item_in
@@ -96,13 +97,13 @@ module _ (p q : Parser) (n : ℕ) (same : (left : ℕ) (a : Bool) (s : List ℕ)
   inside_same (suc left) a [] h = refl
   inside_same (suc left) a (c ∷ s) h = rw (same left a s (omega arith))
 
-  item_of_same : (k : ItemKind) (letter left : ℕ) (a : Bool) (s : List ℕ) → length s ≤ n → item_of p k letter left a s ≡ item_of q k letter left a s
+  item_of_same : (k : Option ItemKind) (letter left : ℕ) (a : Bool) (s : List ℕ) → length s ≤ n → item_of p k letter left a s ≡ item_of q k letter left a s
   unfolding item_of
-  item_of_same (kind.Value v) letter left a s h = refl
-  item_of_same kind.Rest letter left a s h = refl
-  item_of_same kind.Struct letter left a s h = rw (inside_same left false s h)
-  item_of_same kind.Array letter left a s h = rw (inside_same left true s h)
-  item_of_same kind.Other letter left a s h = refl
+  item_of_same (Some (kind.Value v)) letter left a s h = refl
+  item_of_same (Some kind.Rest) letter left a s h = refl
+  item_of_same (Some kind.Struct) letter left a s h = rw (inside_same left false s h)
+  item_of_same (Some kind.Array) letter left a s h = rw (inside_same left true s h)
+  item_of_same None letter left a s h = refl
 
   item_same : (left : ℕ) (a : Bool) (s : List ℕ) → length s ≤ n → item_in p left a s ≡ item_in q left a s
   unfolding item_in

@@ -11,8 +11,9 @@ use Rattle.octets.proofs.LawsTests.{impossible}
 use Rattle.typestring.specs.declared.kind.ItemKind.{ItemKind}
 use Rattle.typestring.specs.declared.kind.ItemKind.TheVariants as kind
 use Rattle.typestring.specs.declared.kind.Value.{Value}
+use Rattle.std.specs.Prelude.{Some}
 use Rattle.typestring.specs.Kind.{kind_of}
-use Rattle.typestring.specs.Grammar.{Item, Items, value, rest, struct, array, end, more, print, print_item, Some, ItemRules, PartRules}
+use Rattle.typestring.specs.Grammar.{Item, Items, value, rest, struct, array, end, more, print, print_item, HasItem, ItemRules, PartRules}
 use Rattle.typestring.specs.Parse.{ends_part}
 use Rattle.typestring.specs.Calls.{PartFrom, ItemFrom}
 use Rattle.typestring.proofs.LawsGrammar.{item_open, relax, bracket_shut}
@@ -50,7 +51,7 @@ kind_is (struct t) = kind.Struct
 kind_is (array t) = kind.Array
 
 -- the first octet of an item is in the string, and tells its kind
-pub item_first : (types : List ℕ) (at depth : ℕ) (i : Item) → ItemFrom (drop at types) depth i → (kind_of (get_or types at 0) ≡ kind_is i) × (at < length types)
+pub item_first : (types : List ℕ) (at depth : ℕ) (i : Item) → ItemFrom (drop at types) depth i → (kind_of (get_or types at 0) ≡ Some (kind_is i)) × (at < length types)
 unfolding kind_of print_item ItemRules
 item_first types at depth (value c v) w = let h = front types at c w.behind w.printed in (ap kind_of h.0 ∙ w.rules, h.1)
 item_first types at depth rest w = let h = front types at 68 w.behind w.printed in (ap kind_of h.0, h.1)
@@ -83,7 +84,7 @@ struct_inner types at depth t w =
     (w.rules.0, omega (arith, length-drop at types, ap length w.printed), inner_part types at (depth - 1) 116 t w.behind w.printed w.rules.2)
 
 pub array_inner : (types : List ℕ) (at depth : ℕ) (t : Items) → ItemFrom (drop at types) depth (array t)
-    → (0 < depth) × (at + 2 ≤ length types) × PartFrom (drop (at + 2) types) (depth - 1) t × PartRules t (depth - 1) true × Some t
+    → (0 < depth) × (at + 2 ≤ length types) × PartFrom (drop (at + 2) types) (depth - 1) t × PartRules t (depth - 1) true × HasItem t
 unfolding print_item ItemRules
 array_inner types at depth t w = (
   w.rules.1,
@@ -110,22 +111,22 @@ item_place types at depth i w =
 
 module _ (types : List ℕ) (at depth : ℕ) where
   -- a letter of one kind stands at no item of another
-  unlike : {P : Type 0} (i : Item) (j : ItemKind) → ItemFrom (drop at types) depth i → kind_of (get_or types at 0) ≡ j → (kind_is i ≡ j → ◌≡◌ {A = ℕ} 0 1) → P
-  unlike i j w e clash = absurd (omega (arith, clash (sym (item_first types at depth i w).0 ∙ e)))
+  unlike : {P : Type 0} (i : Item) (j : ItemKind) → ItemFrom (drop at types) depth i → kind_of (get_or types at 0) ≡ Some j → (kind_is i ≡ j → ◌≡◌ {A = ℕ} 0 1) → P
+  unlike i j w e clash = absurd (omega (arith, clash (let same : kind_is i ≡ j = cc (sym (item_first types at depth i w).0 ∙ e) in same)))
 
-  pub is_struct : (i : Item) → ItemFrom (drop at types) depth i → kind_of (get_or types at 0) ≡ kind.Struct → (t : Items) × (i ≡ struct t)
+  pub is_struct : (i : Item) → ItemFrom (drop at types) depth i → kind_of (get_or types at 0) ≡ Some kind.Struct → (t : Items) × (i ≡ struct t)
   is_struct (struct t) w e = (t, refl)
   is_struct (value c v) w e = unlike (value c v) kind.Struct w e (λ f. cc)
   is_struct rest w e = unlike rest kind.Struct w e (λ f. cc)
   is_struct (array t) w e = unlike (array t) kind.Struct w e (λ f. cc)
 
-  pub is_array : (i : Item) → ItemFrom (drop at types) depth i → kind_of (get_or types at 0) ≡ kind.Array → (t : Items) × (i ≡ array t)
+  pub is_array : (i : Item) → ItemFrom (drop at types) depth i → kind_of (get_or types at 0) ≡ Some kind.Array → (t : Items) × (i ≡ array t)
   is_array (array t) w e = (t, refl)
   is_array (value c v) w e = unlike (value c v) kind.Array w e (λ f. cc)
   is_array rest w e = unlike rest kind.Array w e (λ f. cc)
   is_array (struct t) w e = unlike (struct t) kind.Array w e (λ f. cc)
 
-  pub is_value : (i : Item) (v : Value) → ItemFrom (drop at types) depth i → kind_of (get_or types at 0) ≡ kind.Value v → i ≡ value (get_or types at 0) v
+  pub is_value : (i : Item) (v : Value) → ItemFrom (drop at types) depth i → kind_of (get_or types at 0) ≡ Some (kind.Value v) → i ≡ value (get_or types at 0) v
   is_value (value c u) v w e =
       let same : u ≡ v = cc (item_first types at depth (value c u) w).0 in
       cc (same_letter types at depth c u w)

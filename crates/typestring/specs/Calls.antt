@@ -1,7 +1,5 @@
 -- What the functions on type strings rely on and give.
-use Rattle.std.specs.Prelude.{Bool, true, false, List, ◌∷◌, ◌++◌, ◌≡◌, ℕ, ◌+◌, ◌≤◌, ◌<◌, length, drop}
-use Rattle.typestring.specs.declared.check.Scan.{Scan}
-use Rattle.typestring.specs.declared.check.Scan.TheVariants as scan
+use Rattle.std.specs.Prelude.{Bool, true, false, Option, Some, None, List, ◌∷◌, ◌++◌, ◌≡◌, ℕ, ◌+◌, ◌≤◌, ◌<◌, length, drop}
 use Rattle.typestring.specs.declared.check.Step.{Step}
 use Rattle.typestring.specs.declared.check.Step.TheVariants as step
 use Rattle.typestring.specs.Grammar.{Item, Items, print, print_item, final, ItemRules, PartRules}
@@ -10,15 +8,15 @@ use Rattle.typestring.specs.Parse.{Parsed, malformed, parsed, Head, no_item, one
 -- ---- the check
 
 -- the part that was parsed from a place ends at the place found
-abbrev pub Scanned : List ℕ → ℕ → Parsed → Scan → Type 0
-Scanned types at p scan.Bad = p ≡ malformed
-Scanned types at p (scan.Upto next) = (at ≤ next) × (next ≤ length types) × ((t : Items) × (p ≡ parsed t (drop next types)))
+abbrev pub Scanned : List ℕ → ℕ → Parsed → Option ℕ → Type 0
+Scanned types at p None = p ≡ malformed
+Scanned types at p (Some next) = (at ≤ next) × (next ≤ length types) × ((t : Items) × (p ≡ parsed t (drop next types)))
 
 -- the item that was parsed at a place ends at the place found, and is final or not
-abbrev pub Stepped : List ℕ → ℕ → Head → Step → Type 0
-Stepped types at h step.Bad = h ≡ no_item
-Stepped types at h (step.Next next) = (at < next) × (next ≤ length types) × ((i : Item) × (h ≡ one i (drop next types)) × (final i ≡ false))
-Stepped types at h (step.Last next) = (at < next) × (next ≤ length types) × ((i : Item) × (h ≡ one i (drop next types)) × (final i ≡ true))
+abbrev pub Stepped : List ℕ → ℕ → Head → Option Step → Type 0
+Stepped types at h None = h ≡ no_item
+Stepped types at h (Some (step.Next next)) = (at < next) × (next ≤ length types) × ((i : Item) × (h ≡ one i (drop next types)) × (final i ≡ false))
+Stepped types at h (Some (step.Last next)) = (at < next) × (next ≤ length types) × ((i : Item) × (h ≡ one i (drop next types)) × (final i ≡ true))
 
 -- ---- places of a tree
 

@@ -1,5 +1,5 @@
 -- The grammar of type strings, over trees (01, Type strings). A string is well-formed if it is the print of a tree that keeps the rules.
-use Rattle.std.specs.Prelude.{Bool, true, false, List, [], ◌∷◌, ◌++◌, ◌≡◌, ℕ, ◌-◌, ◌<◌, ◌≤◌, length}
+use Rattle.std.specs.Prelude.{Bool, true, false, Some, List, [], ◌∷◌, ◌++◌, ◌≡◌, ℕ, ◌-◌, ◌<◌, ◌≤◌, length}
 use Rattle.typestring.specs.declared.kind.Value.{Value}
 use Rattle.typestring.specs.declared.kind.ItemKind.TheVariants as kind
 use Rattle.typestring.specs.Kind.{kind_of}
@@ -36,21 +36,21 @@ final rest = true
 final (struct t) = false
 final (array t) = true
 
-abbrev pub Some : Items → Type 0
-Some end = ⊥
-Some (more i t) = Unit {0}
+abbrev pub HasItem : Items → Type 0
+HasItem end = ⊥
+HasItem (more i t) = Unit {0}
 
 -- The rules of an item and of a part. The number is how many brackets more may be opened, and the Bool tells a part that stands directly
 -- inside A(...).
 unfoldable mutual
   pub ItemRules : Item → ℕ → Bool → Type 0
   -- "all of them these letters and brackets"
-  ItemRules (value letter v) left in_array = kind_of letter ≡ kind.Value v
+  ItemRules (value letter v) left in_array = kind_of letter ≡ Some (kind.Value v)
   -- "Directly inside A(...) there is no D and no A"
   ItemRules rest left in_array = in_array ≡ false
   -- "Brackets hold at least one item and at most four are open at once"
-  ItemRules (struct t) left in_array = (0 < left) × Some t × PartRules t (left - 1) false
-  ItemRules (array t) left in_array = (in_array ≡ false) × (0 < left) × Some t × PartRules t (left - 1) true
+  ItemRules (struct t) left in_array = (0 < left) × HasItem t × PartRules t (left - 1) false
+  ItemRules (array t) left in_array = (in_array ≡ false) × (0 < left) × HasItem t × PartRules t (left - 1) true
 
   pub PartRules : Items → ℕ → Bool → Type 0
   PartRules end left in_array = Unit {0}

@@ -1,5 +1,5 @@
 -- The tree of a type string, found from the left (01, Type strings). That it is the grammar's is proved: proofs/Grammatical.antt.
-use Rattle.std.specs.Prelude.{Bool, true, false, cond, List, [], ◌∷◌, ℕ, zero, suc, eqb, ltb, length}
+use Rattle.std.specs.Prelude.{Bool, true, false, cond, Option, Some, None, List, [], ◌∷◌, ℕ, zero, suc, eqb, ltb, length}
 use Rattle.typestring.specs.declared.kind.ItemKind.{ItemKind}
 use Rattle.typestring.specs.declared.kind.ItemKind.TheVariants as kind
 use Rattle.typestring.specs.Kind.{kind_of}
@@ -37,12 +37,12 @@ headed item malformed = no_item
 headed item (parsed t s) = one (item t) s
 
 -- the item of a letter of some kind, with what follows the letter
-unfoldable pub item_of : (ℕ → Bool → List ℕ → Parsed) → ItemKind → ℕ → ℕ → Bool → List ℕ → Head
-item_of part (kind.Value v) letter left in_array s = one (value letter v) s
-item_of part kind.Rest letter left in_array s = cond in_array no_item (one rest s)
-item_of part kind.Struct letter left in_array s = headed struct (inside part left false s)
-item_of part kind.Array letter left in_array s = cond in_array no_item (headed array (inside part left true s))
-item_of part kind.Other letter left in_array s = no_item
+unfoldable pub item_of : (ℕ → Bool → List ℕ → Parsed) → Option ItemKind → ℕ → ℕ → Bool → List ℕ → Head
+item_of part (Some (kind.Value v)) letter left in_array s = one (value letter v) s
+item_of part (Some kind.Rest) letter left in_array s = cond in_array no_item (one rest s)
+item_of part (Some kind.Struct) letter left in_array s = headed struct (inside part left false s)
+item_of part (Some kind.Array) letter left in_array s = cond in_array no_item (headed array (inside part left true s))
+item_of part None letter left in_array s = no_item
 
 -- the item at the front of a string
 unfoldable pub item_in : (ℕ → Bool → List ℕ → Parsed) → ℕ → Bool → List ℕ → Head

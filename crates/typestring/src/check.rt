@@ -16,17 +16,9 @@ impl TypeString {
     pub const MAX_OPEN: usize = 4;
 }
 
-// Where a part ends.
-#[derive(Clone, Copy)]
-pub enum Scan {
-    Bad,
-    Upto(usize),
-}
-
 // Where an item ends, and whether it has to be the last of its part.
 #[derive(Clone, Copy)]
 pub enum Step {
-    Bad,
     Next(usize),
     Last(usize),
 }
@@ -34,13 +26,8 @@ pub enum Step {
 pub fn is_type(types: &[u8]) -> bool
     ensures { result ≡ parse.is_type (parse.type_of types.now) }
 {
-    if TypeString::MAX_OCTETS < types.len() {
-        return false;
-    }
-    match check_sequence(types, 0, TypeString::MAX_OPEN, false) {
-        Scan::Bad => false,
-        Scan::Upto(end) => end == types.len(),
-    }
+    types.len() <= TypeString::MAX_OCTETS
+        && check_sequence(types, 0, TypeString::MAX_OPEN, false) == Some(types.len())
 }
 
 // Whether a part ends at a place: there is a closing bracket, or the string's end.
@@ -48,96 +35,51 @@ pub fn ends_part(types: &[u8], at: usize) -> bool
     requires { at ≤ length types.now }
     ensures { result ≡ parse.ends_part (drop at types.now) }
 {
-    if at == types.len() {
-        return true;
-    }
-    types[at] == b')'
+    at == types.len() || types[at] == b')'
 }
 
+// Where a part ends. The place, `depth` and `in_array` are no struct: each call changes one or two of them, and a literal that names all
+// would be longer than the arguments are.
 #[cycle(checking)]
-fn check_sequence(types: &[u8], at: usize, depth: usize, in_array: bool) -> Scan
+fn check_sequence(types: &[u8], at: usize, depth: usize, in_array: bool) -> Option<usize>
     requires { at ≤ length types.now }
     ensures { Scanned types.now at (parse.part_at depth in_array (drop at types.now)) result }
 {
     let mut next = at;
-    loop {
-        if ends_part(types, next) {
-            return Scan::Upto(next);
-        }
-        match check_item(types, next, depth, in_array) {
-            Step::Bad => {
-                return Scan::Bad;
-            }
-            Step::Last(end) => {
-                if ends_part(types, end) {
-                    return Scan::Upto(end);
-                }
-                return Scan::Bad;
-            }
-            Step::Next(end) => {
-                next = end;
-            }
+    while !ends_part(types, next) {
+        match check_item(types, next, depth, in_array)? {
+            Step::Next(end) => next = end,
+            Step::Last(end) => return ends_part(types, end).then_some(end),
         }
     }
+    Some(next)
 }
 
 #[cycle(checking)]
-fn check_item(types: &[u8], at: usize, depth: usize, in_array: bool) -> Step
+fn check_item(types: &[u8], at: usize, depth: usize, in_array: bool) -> Option<Step>
     requires { at < length types.now }
     ensures { Stepped types.now at (parse.item_at depth in_array (drop at types.now)) result }
 {
     let after = at + 1;
-    match kind_of(types[at]) {
-        ItemKind::Value(_) => Step::Next(after),
-        ItemKind::Rest => {
-            if in_array {
-                return Step::Bad;
-            }
-            Step::Last(after)
-        }
-        ItemKind::Struct => match check_inside(types, after, depth, false) {
-            Scan::Bad => Step::Bad,
-            Scan::Upto(end) => Step::Next(end),
-        },
-        ItemKind::Array => {
-            if in_array {
-                return Step::Bad;
-            }
-            match check_inside(types, after, depth, true) {
-                Scan::Bad => Step::Bad,
-                Scan::Upto(end) => Step::Last(end),
-            }
-        }
-        ItemKind::Other => Step::Bad,
+    match kind_of(types[at])? {
+        ItemKind::Value(_) => Some(Step::Next(after)),
+        ItemKind::Struct => Some(Step::Next(check_inside(types, after, depth, false)?)),
+        ItemKind::Rest if !in_array => Some(Step::Last(after)),
+        ItemKind::Array if !in_array => Some(Step::Last(check_inside(types, after, depth, true)?)),
+        // Directly inside A(..) there is no D and no A.
+        _ => None,
     }
 }
 
 // The brackets at a place, with at least one item between them.
 #[cycle(checking)]
-fn check_inside(types: &[u8], at: usize, depth: usize, in_array: bool) -> Scan
+fn check_inside(types: &[u8], at: usize, depth: usize, in_array: bool) -> Option<usize>
     requires { at ≤ length types.now }
     ensures { Scanned types.now at (parse.inside parse.part_at depth in_array (drop at types.now)) result }
 {
-    if depth == 0 {
-        return Scan::Bad;
+    if depth == 0 || at == types.len() || types[at] != b'(' || ends_part(types, at + 1) {
+        return None;
     }
-    if at == types.len() {
-        return Scan::Bad;
-    }
-    if types[at] != b'(' {
-        return Scan::Bad;
-    }
-    let first = at + 1;
-    if ends_part(types, first) {
-        return Scan::Bad;
-    }
-    match check_sequence(types, first, depth - 1, in_array) {
-        Scan::Bad => Scan::Bad,
-        Scan::Upto(end) => {
-            if end == types.len() {
-                return Scan::Bad;
-            }
-            Scan::Upto(end + 1)
-        }
-    }
+    let end = check_sequence(types, at + 1, depth - 1, in_array)?;
+    (end < types.len()).then_some(end + 1)
 }

@@ -26,14 +26,14 @@ pub enum ItemKind {
     Struct,
     // A: items in brackets, again and again up to the end of the part.
     Array,
-    // No letter. A bracket is none either.
-    Other,
 }
 
-pub fn kind_of(octet: u8) -> ItemKind
+// What a letter stands for. A bracket is no letter.
+#[tactic(auto, unfolding(crate::specs::Kind::kind_of))]
+pub fn kind_of(octet: u8) -> Option<ItemKind>
     ensures { result ≡ kind_of octet }
 {
-    match octet {
+    Some(match octet {
         b'b' => ItemKind::Value(Value::Bool),
         b'C' | b'c' => ItemKind::Value(Value::Fixed(1)),
         b'S' | b's' => ItemKind::Value(Value::Fixed(2)),
@@ -47,6 +47,6 @@ pub fn kind_of(octet: u8) -> ItemKind
         b'D' => ItemKind::Rest,
         b't' => ItemKind::Struct,
         b'A' => ItemKind::Array,
-        _ => ItemKind::Other,
-    }
+        _ => return None,
+    })
 }

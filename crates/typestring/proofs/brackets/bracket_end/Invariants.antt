@@ -1,12 +1,12 @@
--- The invariant: the bracket that closes the last of the open ones, looked for from `next` on, is the one that is looked for from `at` on,
--- and it stands in the string.
-use Rattle.std.proofs.Common.{◌≡◌, ◌+◌, ◌-◌, ◌≤◌, length, drop}
+-- The invariant: the bracket that closes the last of the open ones, looked for from the octet reached on, is the one that is looked for from
+-- the start on, and it stands in the string.
+use Rattle.std.proofs.Common.{◌≡◌, ◌+◌, ◌≤◌, ◌<◌, length, drop}
 use Rattle.typestring.proofs.LawsBrackets.{past}
 use Rattle.typestring.proofs.brackets.bracket_end.Given as goal
 
-abbrev pub invariant-loop-unclosed : goal.invariant-loop-unclosed
-invariant-loop-unclosed l =
-    (l.at + past (drop l.at l.types) 1 ≤ length l.types) × (l.next + past (drop l.next l.types) l.unclosed ≡ l.at + past (drop l.at l.types) 1)
-
-abbrev pub decreases-loop-unclosed : goal.decreases-loop-unclosed
-decreases-loop-unclosed l = length l.types - l.next
+abbrev pub invariant-loop-index : goal.invariant-loop-index
+invariant-loop-index l = record {
+  inside : past l.octets 1 ≤ length l.octets;
+  same : l.index + past (drop l.index l.octets) l.unclosed ≡ past l.octets 1;
+  some : 0 < l.unclosed;
+}
