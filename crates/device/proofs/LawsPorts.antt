@@ -1,85 +1,78 @@
--- Laws of ports in octets, at a place and from it on.
+-- Laws of ports in octets: the first of them, and those behind it.
 use mathlib.Core.Path.{◌≡◌, refl}
-use mathlib.Core.Bool.{true, false}
+use mathlib.Core.Bool.{true, false, not, ◌&&◌}
 use mathlib.Core.List.{List, [], ◌∷◌}
 use Prim.Native.Nat.{ℕ, suc, ◌+◌, ◌*◌, ◌-◌, ◌≤◌, ◌<◌}
+use Prim.Native.Nat.compare
 use native.Mathlib.Omega.{arith}
-use borrow.Author.Tests.{eq-eqb, ne_eqb, lt-ltb, le-ltb}
-use lib.ListN.{length, drop, length-drop}
+use borrow.Author.Tests.{eq-eqb, ne_eqb, lt-ltb}
+use lib.ListN.{length, take, drop, length-drop}
+use lib.Seq.{length-take-le, take-length}
+use Rattle.std.specs.Option.{is_some}
+use Rattle.octets.proofs.LawsTests.{by_test}
 use Rattle.octets.specs.LittleEndian.{le_at}
 use Rattle.octets.specs.Finding.{before}
-use Rattle.octets.proofs.LawsLists.{drop_next}
-use Rattle.octets.proofs.LawsFinding.{before_most}
-use Rattle.device.specs.Ports.{ports_in, holds, distinct}
+use Rattle.device.specs.Ports.{ports_in, holds, distinct, port_place}
 
--- a whole port stands at the place
-pub ports_next : (xs : List ℕ) (at : ℕ) → at + 1 < length xs → ports_in (drop at xs) ≡ le_at xs at 2 ∷ ports_in (drop (at + 2) xs)
+-- what stands behind two octets
+abbrev pub behind : List ℕ → List ℕ
+behind xs = take (length xs - 2) (drop 2 xs)
+
+pub behind_length : (xs : List ℕ) → 2 ≤ length xs → length (behind xs) + 2 ≡ length xs
+behind_length xs h = omega (arith, length-drop 2 xs, length-take-le (length xs - 2) (drop 2 xs) (omega (arith, length-drop 2 xs)))
+
+behind_two : (x y : ℕ) (xs : List ℕ) → behind (x ∷ y ∷ xs) ≡ xs
+behind_two x y xs = let e : length (x ∷ y ∷ xs) - 2 ≡ length xs = omega arith in rw e (take-length xs)
+
+pub ports_next : (xs : List ℕ) → 2 ≤ length xs → ports_in xs ≡ le_at xs 0 2 ∷ ports_in (behind xs)
 unfolding le_at ports_in
-ports_next xs at h =
-    let next : at + 1 + 1 ≡ at + 2 = omega arith in
-    rw (drop_next xs at (omega arith), drop_next xs (at + 1) h, next)
+ports_next [] h = absurd (omega arith)
+ports_next (x ∷ []) h = absurd (omega arith)
+ports_next (x ∷ y ∷ xs) h = rw (behind_two x y xs)
 
--- no whole port is left
-none : (xs : List ℕ) → length xs < 2 → ports_in xs ≡ []
+pub ports_none : (xs : List ℕ) → length xs < 2 → ports_in xs ≡ []
 unfolding ports_in
-none [] h = refl
-none (x ∷ []) h = refl
-none (x ∷ y ∷ xs) h = absurd (omega arith)
-
-pub ports_none : (xs : List ℕ) (at : ℕ) → length xs < at + 2 → ports_in (drop at xs) ≡ []
-ports_none xs at h = none (drop at xs) (omega (arith, length-drop at xs))
+ports_none [] h = refl
+ports_none (x ∷ []) h = refl
+ports_none (x ∷ y ∷ xs) h = absurd (omega arith)
 
 -- ---- looking for a port
 
-pub port_here : (v : ℕ) (xs : List ℕ) (at : ℕ) → at + 1 < length xs → le_at xs at 2 ≡ v → before v (ports_in (drop at xs)) ≡ 0
+-- the front of a list, and behind it
+held_here : (v x : ℕ) (xs : List ℕ) → x ≡ v → holds v (x ∷ xs) ≡ true
+unfolding before holds
+held_here v x xs e = rw (eq-eqb x v e) (lt-ltb 0 (length (x ∷ xs)) (omega arith))
+
+held_on : (v x : ℕ) (xs : List ℕ) → (x ≡ v → ⊥) → holds v (x ∷ xs) ≡ holds v xs
+unfolding before holds
+held_on v x xs e = rw (ne_eqb x v e, compare.suc-suc)
+
+pub port_here : (v : ℕ) (xs : List ℕ) → 2 ≤ length xs → le_at xs 0 2 ≡ v → (before v (ports_in xs) ≡ 0) × (holds v (ports_in xs) ≡ true)
 unfolding before
-port_here v xs at h e = rw (ports_next xs at h, eq-eqb _ _ e)
+port_here v xs h e = (rw (ports_next xs h, eq-eqb _ _ e), rw (ports_next xs h) (held_here v _ _ e))
 
-pub port_on : (v : ℕ) (xs : List ℕ) (at : ℕ) → at + 1 < length xs → (le_at xs at 2 ≡ v → ⊥)
-    → before v (ports_in (drop at xs)) ≡ suc (before v (ports_in (drop (at + 2) xs)))
+pub port_on : (v : ℕ) (xs : List ℕ) → 2 ≤ length xs → (le_at xs 0 2 ≡ v → ⊥)
+    → (before v (ports_in xs) ≡ suc (before v (ports_in (behind xs)))) × (holds v (ports_in xs) ≡ holds v (ports_in (behind xs)))
 unfolding before
-port_on v xs at h e = rw (ports_next xs at h, ne_eqb _ _ e)
+port_on v xs h e = (rw (ports_next xs h, ne_eqb _ _ e), rw (ports_next xs h) (held_on v _ _ e))
 
-pub port_none : (v : ℕ) (xs : List ℕ) (at : ℕ) → length xs < at + 2 → before v (ports_in (drop at xs)) ≡ 0
-unfolding before
-port_none v xs at h = rw (ports_none xs at h)
+pub port_none : (v : ℕ) (xs : List ℕ) → length xs < 2 → holds v (ports_in xs) ≡ false
+unfolding before holds
+port_none v xs h = rw (ports_none xs h)
 
--- ---- how many
-
-pub ports_length : (xs : List ℕ) → (2 * length (ports_in xs) ≤ length xs) × (length xs < 2 * length (ports_in xs) + 2)
-unfolding ports_in
-ports_length [] = (omega arith, omega arith)
-ports_length (x ∷ []) = (omega arith, omega arith)
-ports_length (x ∷ y ∷ xs) = let few = ports_length xs in (omega arith, omega arith)
-
--- ---- the place at which a port is found
-
-module _ (v : ℕ) (xs : List ℕ) (from at : ℕ) (place : at ≡ from + 2 * before v (ports_in (drop from xs))) (in-xs : from ≤ length xs) where
-  pub place_most : at ≤ length xs
-  place_most = omega (arith, before_most v (ports_in (drop from xs)), ports_length (drop from xs), length-drop from xs)
-
-  pub place_held : 2 ≤ length xs - at → holds v (ports_in (drop from xs)) ≡ true
-  unfolding holds
-  place_held h = lt-ltb (before v (ports_in (drop from xs))) _ (omega (arith, ports_length (drop from xs), length-drop from xs))
-
-  pub place_none : length xs - at < 2 → holds v (ports_in (drop from xs)) ≡ false
-  unfolding holds
-  place_none h =
-      let ps = ports_in (drop from xs) in
-      le-ltb (before v ps) _ (omega (arith, before_most v ps, ports_length (drop from xs), length-drop from xs))
+-- a port is found if it is there
+pub place_held : (v : ℕ) (xs : List ℕ) → is_some (port_place v xs) ≡ holds v (ports_in xs)
+unfolding port_place
+place_held v xs =
+    let place = 2 * before v (ports_in xs) in
+    by_test (holds v (ports_in xs)) (λ t. rw t) (λ t. rw t)
 
 -- ---- no port twice
 
-pub distinct_on : (v : ℕ) (xs : List ℕ) (at : ℕ) → at + 1 < length xs → v ≡ le_at xs at 2 → holds v (ports_in (drop (at + 2) xs)) ≡ false
-    → distinct (ports_in (drop at xs)) ≡ distinct (ports_in (drop (at + 2) xs))
+pub distinct_next : (xs : List ℕ) → 2 ≤ length xs → distinct (ports_in xs) ≡ not (holds (le_at xs 0 2) (ports_in (behind xs))) && distinct (ports_in (behind xs))
 unfolding distinct
-distinct_on v xs at h e held = rw (ports_next xs at h, ← e, held)
+distinct_next xs h = rw (ports_next xs h)
 
-pub distinct_stop : (v : ℕ) (xs : List ℕ) (at : ℕ) → at + 1 < length xs → v ≡ le_at xs at 2 → holds v (ports_in (drop (at + 2) xs)) ≡ true
-    → distinct (ports_in (drop at xs)) ≡ false
+pub distinct_none : (xs : List ℕ) → length xs < 2 → distinct (ports_in xs) ≡ true
 unfolding distinct
-distinct_stop v xs at h e held = rw (ports_next xs at h, ← e, held)
-
-pub distinct_none : (xs : List ℕ) (at : ℕ) → length xs < at + 2 → distinct (ports_in (drop at xs)) ≡ true
-unfolding distinct
-distinct_none xs at h = rw (ports_none xs at h)
+distinct_none xs h = rw (ports_none xs h)

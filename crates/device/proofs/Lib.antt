@@ -3,3 +3,4 @@ pub mod LawsRules
 pub mod LawsSetup
 pub mod StateRules
 pub mod SetupKeepsRules
+pub mod LawsFresh

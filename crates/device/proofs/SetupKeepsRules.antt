@@ -28,7 +28,7 @@ unfolding link_rule sized in_range stack_rule text_rule ports_rule padded is_tex
     before defaults numbers within pad all_below all_from zeros_from
 fresh_set = refl
 
-fresh_unset : is_fresh fresh_link ≡ true
+pub fresh_unset : is_fresh fresh_link ≡ true
 unfolding is_fresh sized at_defaults defaults numbers pad all_below all_from zeros_from
 fresh_unset = refl
 

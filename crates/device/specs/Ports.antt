@@ -1,5 +1,5 @@
 -- Assisting ports, as octets: each a little-endian number of two.
-use Rattle.std.specs.Prelude.{ℕ, Bool, true, not, ◌&&◌, List, [], ◌∷◌, ltb, length}
+use Rattle.std.specs.Prelude.{ℕ, Bool, true, not, ◌*◌, ◌&&◌, List, [], ◌∷◌, ltb, length, Option, Some, None, cond}
 use Rattle.octets.specs.LittleEndian.{le}
 use Rattle.octets.specs.Finding.{before}
 
@@ -17,3 +17,7 @@ holds v xs = ltb (before v xs) (length xs)
 unfoldable pub distinct : List ℕ → Bool
 distinct [] = true
 distinct (x ∷ xs) = not (holds x xs) && distinct xs
+
+-- where a port's two octets begin, if it is among some
+unfoldable pub port_place : ℕ → List ℕ → Option ℕ
+port_place v xs = cond (holds v (ports_in xs)) (Some (2 * before v (ports_in xs))) None

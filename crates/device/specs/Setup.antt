@@ -1,9 +1,8 @@
 -- Setup (01, Setup).
-use Rattle.std.specs.Prelude.{ℕ, Bool, cond, ◌&&◌, List, [], eqb, leb, length, replicate}
+use Rattle.std.specs.Prelude.{ℕ, Bool, Result, Ok, Err, cond, ◌&&◌, List, [], eqb, leb, length, replicate}
 use Rattle.device.specs.declared.state.Settings.{Settings}
 use Rattle.device.specs.declared.state.Device.{Device}
-use Rattle.device.specs.declared.set_up.Answer.{Answer}
-use Rattle.device.specs.declared.set_up.Answer.TheVariants.{Ready, BadSetup}
+use Rattle.device.specs.declared.set_up.BadSetup.{BadSetup}
 use Rattle.device.specs.declared.set_up.Configured.{Configured}
 use Rattle.device.specs.State.{text_from, fresh, address_size, max_links, max_text, max_vendor}
 use Rattle.device.specs.Text.{is_text}
@@ -13,9 +12,9 @@ pub record Report : Type 0 where
   pub number : ℕ
   pub device : Device
 
-abbrev pub number_of : Answer → ℕ
-number_of Ready = 0
-number_of BadSetup = 14
+abbrev pub number_of : Result Unit BadSetup → ℕ
+number_of (Ok x) = 0
+number_of (Err e) = 14
 
 abbrev pub reported : Configured → Report
 reported c = record { number = number_of c.answer; device = c.device }

@@ -3,8 +3,7 @@ use Rattle.std.specs.Prelude.{ℕ, List, [], map, length, take, replicate}
 use Rattle.octets.specs.Padding.{pad}
 use Rattle.property.specs.Status.{reset_status}
 use Rattle.property.specs.Number.{numbers, power_state}
-use Rattle.device.specs.declared.state.Text.{Text}
-use Rattle.device.specs.declared.state.Held.{Held}
+use Rattle.device.specs.declared.state.Padded.{Padded}
 use Rattle.device.specs.declared.state.Link.{Link}
 use Rattle.device.specs.declared.state.Settings.{Settings}
 use Rattle.device.specs.declared.state.Device.{Device}
@@ -42,17 +41,17 @@ max_reply = 61
 
 -- ---- octets in their arrays, and back
 
-abbrev pub text_from : List ℕ → Text
-text_from xs = record { octets = pad max_text xs; len = length xs }
+abbrev pub padded_from : (places : ℕ) → List ℕ → Padded places
+padded_from places xs = record { octets = pad places xs; len = length xs }
 
-abbrev pub held_from : List ℕ → Held
-held_from xs = record { octets = pad max_held xs; len = length xs }
+abbrev pub text_from : List ℕ → Padded max_text
+text_from = padded_from max_text
 
-abbrev pub text_of : Text → List ℕ
-text_of t = take t.len t.octets
+abbrev pub held_from : List ℕ → Padded max_held
+held_from = padded_from max_held
 
-abbrev pub octets_of : Held → List ℕ
-octets_of h = take h.len h.octets
+abbrev pub octets_of : {places : ℕ} → Padded places → List ℕ
+octets_of p = take p.len p.octets
 
 -- ---- fresh states: "Fresh equals after reset"
 

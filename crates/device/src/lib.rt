@@ -9,6 +9,6 @@ pub mod text;
 mod view;
 
 pub use rules::stack_keeps;
-pub use set_up::{Answer, Configured, setup};
-pub use state::{Device, Held, Link, Settings, Text};
+pub use set_up::{BadSetup, Configured, setup};
+pub use state::{Device, Held, Link, Padded, Settings, Text};
 pub use view::{Effect, View};

@@ -1,43 +1,26 @@
 // Setup (01, Setup).
-ghost use Rattle.std.specs.Prelude.{◌≡◌, length};
-ghost use Rattle.device.specs.State.{address_size};
+ghost use Rattle.std.specs.Prelude.{◌≡◌, Err};
 ghost use Rattle.device.specs.Setup.{number_of, reported, refusal, setup_for};
 
-use crate::state::{Device, Settings, Text};
-use octets::write_octets;
+use crate::state::{Device, Padded, Settings};
 
-// 01's numbers: 0 and 14.
-#[derive(Clone, Copy)]
-pub enum Answer {
-    Ready,
-    BadSetup,
-}
+// A setup that is refused.
+#[derive(Clone, Copy, PartialEq, Eq)]
+pub struct BadSetup;
 
-impl Answer {
-    // 01's number of the answer.
+impl BadSetup {
+    // 01's number of the refusal.
     pub fn number(self) -> u32
-        ensures { result ≡ number_of self }
+        ensures { result ≡ number_of (Err self) }
     {
-        match self {
-            Answer::Ready => 0,
-            Answer::BadSetup => 14,
-        }
+        14
     }
 }
 
 #[derive(Clone, Copy)]
 pub struct Configured {
-    pub answer: Answer,
+    pub answer: Result<(), BadSetup>,
     pub device: Device,
-}
-
-fn address_of(octets: &[u8]) -> [u8; Device::ADDRESS_SIZE]
-    requires { length octets.now ≡ address_size }
-    ensures { result ≡ octets.now }
-{
-    let mut address = [0u8; Device::ADDRESS_SIZE];
-    write_octets(&mut address, 0, octets);
-    address
 }
 
 // A fresh box of one link, vendor 0, empty text, zero address.
@@ -45,14 +28,11 @@ fn refuse() -> Configured
     ensures { reported result ≡ refusal }
 {
     Configured {
-        answer: Answer::BadSetup,
+        answer: Err(BadSetup),
         device: Device::fresh(Settings {
             links: 1,
             vendor: 0,
-            text: Text {
-                octets: [0; Device::MAX_TEXT],
-                len: 0,
-            },
+            text: Padded::empty(),
             address: [0; Device::ADDRESS_SIZE],
         }),
     }
@@ -64,20 +44,20 @@ pub fn setup(links: usize, vendor: u32, text: &[u8], address: &[u8]) -> Configur
     if Device::MAX_TEXT < text.len() {
         return refuse();
     }
-    if address.len() != Device::ADDRESS_SIZE {
+    let Ok(address) = <[u8; Device::ADDRESS_SIZE]>::try_from(address) else {
         return refuse();
-    }
+    };
     let settings = Settings {
         links,
         vendor,
-        text: Text::of(text),
-        address: address_of(address),
+        text: Padded::of(text, b""),
+        address,
     };
-    if settings.keep_rules() {
-        return Configured {
-            answer: Answer::Ready,
-            device: Device::fresh(settings),
-        };
+    if !settings.keep_rules() {
+        return refuse();
     }
-    refuse()
+    Configured {
+        answer: Ok(()),
+        device: Device::fresh(settings),
+    }
 }

@@ -1,26 +1,25 @@
 // The state of the box, by value. An array that a count goes with is filled from its front and holds zeros past the count.
-ghost use Rattle.std.specs.Prelude.{◌≡◌, ◌++◌, ◌+◌, ◌≤◌, length};
+ghost use Rattle.std.specs.Prelude.{[], ◌≡◌, ◌++◌, ◌+◌, ◌≤◌, length};
 ghost use Rattle.property.specs.Number.{power_state};
-ghost use Rattle.device.specs.State.{held_from, text_from, defaults, fresh_link, fresh, max_held, max_text};
+ghost use Rattle.device.specs.State.{padded_from, defaults, fresh_link, fresh};
 
 use octets::write_octets;
-use property::{number_at, power_state, slot, status};
+use property::{Status, number_at, power_state, slot};
+
+// Octets at the front of an array, and how many they are.
+#[derive(Clone, Copy, PartialEq, Eq)]
+pub struct Padded<const N: usize> {
+    pub octets: [u8; N],
+    pub len: usize,
+}
 
 // The version text that setup gave.
-#[derive(Clone, Copy)]
-pub struct Text {
-    pub octets: [u8; Device::MAX_TEXT],
-    pub len: usize,
-}
+pub type Text = Padded<{ Device::MAX_TEXT }>;
 
 // Octets that a link holds: its name, or its ports as they travel, two octets each.
-#[derive(Clone, Copy)]
-pub struct Held {
-    pub octets: [u8; Link::MAX_HELD],
-    pub len: usize,
-}
+pub type Held = Padded<{ Link::MAX_HELD }>;
 
-#[derive(Clone, Copy)]
+#[derive(Clone, Copy, PartialEq, Eq)]
 pub struct Link {
     // The last status.
     pub status: u8,
@@ -31,7 +30,7 @@ pub struct Link {
 }
 
 // What setup gave; `links` is how many are set up.
-#[derive(Clone, Copy)]
+#[derive(Clone, Copy, PartialEq, Eq)]
 pub struct Settings {
     pub links: usize,
     pub vendor: u32,
@@ -39,7 +38,9 @@ pub struct Settings {
     pub address: [u8; Device::ADDRESS_SIZE],
 }
 
-#[derive(Clone, Copy)]
+// A receiving call takes any state and judges it (`keeps_rules`), so neither this nor a part of it has an invariant: what needs the rules
+// requires them.
+#[derive(Clone, Copy, PartialEq, Eq)]
 pub struct Device {
     pub settings: Settings,
     pub power: u8,
@@ -58,40 +59,30 @@ fn default_numbers() -> [u32; slot::COUNT]
     ensures { result ≡ defaults }
 {
     let mut numbers = [0u32; slot::COUNT];
-    let mut slot: usize = 0;
-    while slot < slot::COUNT {
-        numbers[slot] = number_at(slot).default;
-        slot += 1;
+    for (slot, number) in numbers.iter_mut().enumerate() {
+        *number = number_at(slot).default;
     }
     numbers
 }
 
-impl Text {
-    pub fn of(octets: &[u8]) -> Text
-        requires { length octets.now ≤ max_text }
-        ensures { result ≡ text_from octets.now }
-    {
-        let mut padded = [0u8; Device::MAX_TEXT];
-        let len = write_octets(&mut padded, 0, octets);
-        Text {
-            octets: padded,
-            len,
-        }
-    }
-}
-
-impl Held {
+impl<const N: usize> Padded<N> {
     // Two runs of octets, the second right behind the first.
-    pub fn of(first: &[u8], second: &[u8]) -> Held
-        requires { length first.now + length second.now ≤ max_held }
-        ensures { result ≡ held_from (first.now ++ second.now) }
+    pub fn of(first: &[u8], second: &[u8]) -> Padded<N>
+        requires { length first.now + length second.now ≤ N }
+        ensures { result ≡ padded_from N (first.now ++ second.now) }
     {
-        let mut padded = [0u8; Link::MAX_HELD];
-        let next = write_octets(&mut padded, 0, first);
-        let len = write_octets(&mut padded, next, second);
-        Held {
-            octets: padded,
-            len,
+        let mut octets = [0u8; N];
+        let next = write_octets(&mut octets, 0, first);
+        let len = write_octets(&mut octets, next, second);
+        Padded { octets, len }
+    }
+
+    pub(crate) fn empty() -> Padded<N>
+        ensures { result ≡ padded_from N [] }
+    {
+        Padded {
+            octets: [0; N],
+            len: 0,
         }
     }
 }
@@ -105,20 +96,15 @@ impl Link {
     pub const MAX_HELD: usize = 16;
 
     // A link with every default.
+    #[tactic(auto, unfolding(crate::specs::State::fresh))]
     pub fn fresh() -> Link
         ensures { result ≡ fresh_link }
     {
         Link {
-            status: status::RESET_SOFTWARE,
+            status: Status::ResetSoftware.number(),
             numbers: default_numbers(),
-            name: Held {
-                octets: [0; Link::MAX_HELD],
-                len: 0,
-            },
-            ports: Held {
-                octets: [0; Link::MAX_HELD],
-                len: 0,
-            },
+            name: Padded::empty(),
+            ports: Padded::empty(),
         }
     }
 }
@@ -140,12 +126,10 @@ impl Device {
     pub fn fresh(settings: Settings) -> Device
         ensures { result ≡ fresh settings }
     {
-        let link = Link::fresh();
-        let links = [link; Device::MAX_LINKS];
         Device {
             settings,
             power: default_power(),
-            links,
+            links: [Link::fresh(); Device::MAX_LINKS],
         }
     }
 }

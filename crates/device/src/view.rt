@@ -6,21 +6,22 @@ ghost use Rattle.device.specs.View.{power_after, after, view_of};
 use crate::state::{Device, Link, Settings, default_power};
 
 // One link and the values that all links share; no other link.
-#[derive(Clone, Copy)]
+#[derive(Clone, Copy, PartialEq, Eq)]
 pub struct View {
     pub settings: Settings,
     pub power: u8,
     pub link: Link,
 }
 
-// What a body does to the whole box.
-#[derive(Clone, Copy)]
+// What a body does to the whole box: three things, each by its name, where an Option<Option<u8>> would have none.
+#[derive(Clone, Copy, PartialEq, Eq)]
 pub enum Effect {
     None,
     Reset,
     Powered(u8),
 }
 
+#[tactic(auto, unfolding(crate::specs::View::power_after))]
 fn power_after(power: u8, effect: Effect) -> u8
     ensures { result ≡ power_after power effect }
 {
@@ -37,12 +38,10 @@ impl View {
         requires { k < max_links }
         ensures { result ≡ view_of k device }
     {
-        let settings = device.settings;
-        let link = device.links[k];
         View {
-            settings,
+            settings: device.settings,
             power: device.power,
-            link,
+            link: device.links[k],
         }
     }
 
@@ -50,12 +49,10 @@ impl View {
     pub fn after(self, effect: Effect, link: Link) -> View
         ensures { result ≡ after self effect link }
     {
-        let settings = self.settings;
-        let power = power_after(self.power, effect);
         View {
-            settings,
-            power,
+            power: power_after(self.power, effect),
             link,
+            ..self
         }
     }
 }

@@ -1,31 +1,23 @@
--- The invariant: the ports from `at` on are distinct if all are.
-use mathlib.Core.Path.{refl, sym, ◌∙◌}
+-- The invariant: the ports of the rest are distinct if all are.
+use mathlib.Core.Path.{sym, ap, ◌∙◌}
+use mathlib.Core.Bool.{not, ◌&&◌}
 use native.Mathlib.Omega.{arith}
-use Rattle.device.proofs.LawsPorts.{place_most, place_held, place_none, distinct_on, distinct_stop, distinct_none}
+use Rattle.device.specs.Ports.{ports_in, distinct}
+use Rattle.device.proofs.LawsPorts.{behind, distinct_next, distinct_none, place_held}
 use Rattle.device.proofs.ports.are_distinct.Goals as goal
 
-pub loop-at-init : goal.loop-at-init
-loop-at-init c =
-    (omega arith, refl)
+pub returns-then-is_some : goal.returns-then-is_some
+returns-then-is_some c =
+    let xs = c.loop-rest.rest.now in
+    let held = rw (c.find_port.ensures, place_held c.read_le.result (behind xs), c.read_le.ensures) at (sym c.is_some.ensures ∙ c.if-is_some.true) in
+    sym (c.loop-rest.invariant ∙ distinct_next xs (omega arith) ∙ ap (λ b. not b && distinct (ports_in (behind xs))) held)
 
-pub overflow_sub-octets-in-loop-at : goal.overflow_sub-octets-in-loop-at
-overflow_sub-octets-in-loop-at c =
-    let xs = c.args.octets.now in place_most _ xs _ _ c.find_port.ensures (omega arith)
-
-pub returns-then-octets-find_port-ge2 : goal.returns-then-octets-find_port-ge2
-returns-then-octets-find_port-ge2 c =
-    let read = c.read_le-port in
-    let xs = c.args.octets.now in
-    let held = place_held _ xs _ _ c.find_port.ensures (omega arith) c.if-octets-find_port-ge2.true in
-    sym (c.loop-at.invariant.1 ∙ distinct_stop _ xs c.loop-at.at (omega arith) read.ensures held)
-
-pub loop-at-preserved : goal.loop-at-preserved
-loop-at-preserved c =
-    let read = c.read_le-port in
-    let xs = c.args.octets.now in
-    let held = place_none _ xs _ _ c.find_port.ensures (omega arith) c.if-octets-find_port-ge2.false in
-    (omega arith, c.loop-at.invariant.1 ∙ distinct_on _ xs c.loop-at.at (omega arith) read.ensures held)
+pub loop-rest-preserved : goal.loop-rest-preserved
+loop-rest-preserved c =
+    let xs = c.loop-rest.rest.now in
+    let held = rw (c.find_port.ensures, place_held c.read_le.result (behind xs), c.read_le.ensures) at (sym c.is_some.ensures ∙ c.if-is_some.false) in
+    c.loop-rest.invariant ∙ distinct_next xs (omega arith) ∙ ap (λ b. not b && distinct (ports_in (behind xs))) held
 
 pub returns : goal.returns
 returns c =
-    sym (c.loop-at.invariant.1 ∙ distinct_none c.args.octets.now c.loop-at.at (omega arith))
+    sym (c.loop-rest.invariant ∙ distinct_none c.loop-rest.rest.now (omega arith))

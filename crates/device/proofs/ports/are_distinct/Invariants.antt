@@ -1,14 +1,13 @@
--- The invariant: the ports from `at` on are distinct if all are.
+-- The invariant: the ports of the rest are distinct if all are.
 use mathlib.Core.Path.{◌≡◌}
-use Prim.Native.Nat.{◌-◌, ◌≤◌}
-use lib.ListN.{length, drop}
+use lib.ListN.{length}
 use Rattle.device.specs.Ports.{ports_in, distinct}
 use Rattle.device.proofs.ports.are_distinct.Given as goal
 
-abbrev pub invariant-loop-at : goal.invariant-loop-at
-invariant-loop-at l =
-    (l.at ≤ length l.octets) × (distinct (ports_in l.octets) ≡ distinct (ports_in (drop l.at l.octets)))
+abbrev pub invariant-loop-rest : goal.invariant-loop-rest
+invariant-loop-rest l =
+    distinct (ports_in l.octets) ≡ distinct (ports_in l.rest)
 
-abbrev pub decreases-loop-at : goal.decreases-loop-at
-decreases-loop-at l =
-    length l.octets - l.at
+abbrev pub decreases-loop-rest : goal.decreases-loop-rest
+decreases-loop-rest l =
+    length l.rest

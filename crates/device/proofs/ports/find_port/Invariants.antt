@@ -1,15 +1,17 @@
--- The invariant: what is still before the port, from `at` on, is what is before it in all.
+-- The invariant: what is before the port in all is what is passed and what is before it in the rest.
 use mathlib.Core.Path.{◌≡◌}
-use Prim.Native.Nat.{◌+◌, ◌*◌, ◌-◌, ◌≤◌}
-use lib.ListN.{length, drop}
+use Prim.Native.Nat.{◌+◌, ◌*◌, ◌≤◌}
+use lib.ListN.{length}
 use Rattle.octets.specs.Finding.{before}
-use Rattle.device.specs.Ports.{ports_in}
+use Rattle.device.specs.Ports.{ports_in, holds}
 use Rattle.device.proofs.ports.find_port.Given as goal
 
-abbrev pub invariant-loop-at : goal.invariant-loop-at
-invariant-loop-at l =
-    (l.at ≤ length l.octets) × (l.at + 2 * before l.port (ports_in (drop l.at l.octets)) ≡ l.from + 2 * before l.port (ports_in (drop l.from l.octets)))
+abbrev pub invariant-loop-rest : goal.invariant-loop-rest
+invariant-loop-rest l =
+    (length l.rest ≤ length l.octets)
+    × (length l.rest + 2 * before l.port (ports_in l.octets) ≡ length l.octets + 2 * before l.port (ports_in l.rest))
+    × (holds l.port (ports_in l.octets) ≡ holds l.port (ports_in l.rest))
 
-abbrev pub decreases-loop-at : goal.decreases-loop-at
-decreases-loop-at l =
-    length l.octets - l.at
+abbrev pub decreases-loop-rest : goal.decreases-loop-rest
+decreases-loop-rest l =
+    length l.rest

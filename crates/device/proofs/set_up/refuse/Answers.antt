@@ -6,4 +6,4 @@ use Rattle.device.proofs.set_up.refuse.Goals as goal
 pub returns : goal.returns
 unfolding refusal pad
 returns c =
-    rw c.fresh.ensures
+    rw (c.fresh.ensures, c.empty.ensures)

@@ -3,7 +3,7 @@ use mathlib.Core.Path.{refl, sym, ap, ◌∙◌}
 use Prim.Native.Nat.{◌+◌}
 use native.Mathlib.Omega.{arith}
 use native.Mathlib.Nat.{zero-add}
-use lib.ListN.{length-set, drop_of_length-le}
+use lib.ListN.{drop_of_length-le}
 use lib.Seq.{sets}
 use Rattle.octets.proofs.LawsWriting.{put_next}
 use Rattle.property.specs.Number.{numbers}
@@ -14,20 +14,17 @@ use Rattle.device.proofs.state.default_numbers.Goals as goal
 pub loop-slot-init : goal.loop-slot-init
 unfolding defaults numbers
 loop-slot-init c =
-    (omega arith, refl, refl)
+    refl
 
 pub loop-slot-preserved : goal.loop-slot-preserved
 unfolding defaults numbers
 loop-slot-preserved c =
     let w = c.loop-slot in
-    let put = rw (zero-add w.slot, zero-add (w.slot + 1)) at (put_next w.numbers 0 w.slot defaults (omega arith)) in (
-      omega arith,
-      length-set w.numbers w.slot _ ∙ w.invariant.1,
-      rw (c.number_at.ensures.is, ← default_at w.slot (omega arith)) (put ∙ w.invariant.2),
-    )
+    let put = rw (zero-add w.slot, zero-add (w.slot + 1)) at (put_next w.number-items 0 w.slot defaults (omega arith)) in
+    rw (c.number_at.ensures.is, ← default_at w.slot (omega arith)) (put ∙ w.invariant)
 
 pub returns : goal.returns
 unfolding defaults numbers
 returns c =
     let w = c.loop-slot in
-    sym (ap (sets w.numbers w.slot) (drop_of_length-le defaults {i = w.slot} (omega arith))) ∙ w.invariant.2
+    sym (ap (sets w.number-items w.slot) (drop_of_length-le defaults {i = w.slot} (omega arith))) ∙ w.invariant

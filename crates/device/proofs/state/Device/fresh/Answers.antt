@@ -5,4 +5,4 @@ use Rattle.device.proofs.state.Device.fresh.Goals as goal
 pub returns : goal.returns
 unfolding fresh
 returns c =
-    rw (c.fresh-link.ensures, c.default_power.ensures)
+    rw (c.fresh.ensures, c.default_power.ensures)
