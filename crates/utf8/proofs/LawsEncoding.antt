@@ -15,7 +15,7 @@ use Rattle.utf8.specs.declared.Stage.{Stage}
 use Rattle.utf8.specs.declared.Stage.TheVariants.{Between, Expecting, Wrong}
 use Rattle.utf8.specs.Utf8.{tails, leads, lead_in, ends}
 use Rattle.utf8.specs.Encoding.{is_scalar, six_bits, filled, octets_of, with_tails}
-use Rattle.utf8.proofs.LawsLeads.{in_lead, by_lead, by_none}
+use Rattle.utf8.proofs.LawsLeads.{by_lead, by_none}
 use Rattle.utf8.proofs.LawsCompletion.{Completes, none_completes, next_completes, expected, between_none, wrong_never}
 
 -- ---- scalar values
@@ -192,29 +192,31 @@ module _ (c : ℕ) where
   one_tail = next_completes 0x80 0xBF 0 (six_bits c) [] (omega arith) nothing_more
 
   one_completes : c ≤ 0x7F → Completes [] (lead_in leads c)
-  unfolding leads
-  one_completes h = let e : lead_in leads c ≡ Between = in_lead _ 0 (omega arith) in rw e nothing_more
+  unfolding leads lead_in is_between
+  one_completes h = let e : lead_in leads c ≡ Between = grind arith in rw e nothing_more
 
   two_complete : 0x7F < c → c ≤ 0x7FF → Completes (six_bits c ∷ []) (lead_in leads (0xC0 + c / 64))
-  unfolding leads tails
-  two_complete h k = row_completes _ _ _ 0 _ _ (in_lead _ 1 (omega arith)) (omega arith) nothing_more
+  unfolding leads lead_in is_between tails
+  two_complete h k = row_completes (0xC0 + c / 64) 0x80 0xBF 0 _ _ (grind arith) (omega arith) nothing_more
 
   three_complete : 0x7FF < c → c ≤ 0xFFFF → is_scalar c ≡ true → Completes (six_bits (c / 64) ∷ six_bits c ∷ []) (lead_in leads (0xE0 + c / 64 / 64))
-  unfolding leads tails
+  unfolding leads lead_in is_between tails
   three_complete h k s =
-      split c 0xFFF (λ m. row_completes _ _ _ _ _ _ (in_lead _ 2 (omega arith)) (omega arith) one_tail)
-      (λ m. split c 0xCFFF (λ m'. row_completes _ _ _ _ _ _ (in_lead _ 3 (omega arith)) (omega arith) one_tail)
-      (λ m'. split c 0xDFFF (λ m''. row_completes _ _ _ _ _ _ (in_lead _ 4 (omega arith)) (let t = low_scalar c m'' s in omega arith) one_tail)
-      (λ m''. row_completes _ _ _ _ _ _ (in_lead _ 5 (omega arith)) (omega arith) one_tail)))
+      let x = 0xE0 + c / 64 / 64 in
+      split c 0xFFF (λ m. row_completes x 0xA0 0xBF 1 _ _ (grind arith) (omega arith) one_tail)
+      (λ m. split c 0xCFFF (λ m'. row_completes x 0x80 0xBF 1 _ _ (grind arith) (omega arith) one_tail)
+      (λ m'. split c 0xDFFF (λ m''. row_completes x 0x80 0x9F 1 _ _ (grind arith) (let t = low_scalar c m'' s in omega arith) one_tail)
+      (λ m''. row_completes x 0x80 0xBF 1 _ _ (grind arith) (omega arith) one_tail)))
 
   four_complete : 0xFFFF < c → c ≤ 0x10FFFF
       → Completes (six_bits (c / 64 / 64) ∷ six_bits (c / 64) ∷ six_bits c ∷ []) (lead_in leads (0xF0 + c / 64 / 64 / 64))
-  unfolding leads tails
+  unfolding leads lead_in is_between tails
   four_complete h k =
+      let x = 0xF0 + c / 64 / 64 / 64 in
       let o : Completes (six_bits (c / 64) ∷ six_bits c ∷ []) (tails 2) = next_completes _ _ 1 _ _ (omega arith) one_tail in
-      split c 0x3FFFF (λ m. row_completes _ _ _ _ _ _ (in_lead _ 6 (omega arith)) (omega arith) o)
-      (λ m. split c 0xFFFFF (λ m'. row_completes _ _ _ _ _ _ (in_lead _ 7 (omega arith)) (omega arith) o)
-      (λ m'. row_completes _ _ _ _ _ _ (in_lead _ 8 (omega arith)) (omega arith) o))
+      split c 0x3FFFF (λ m. row_completes x 0x90 0xBF 2 _ _ (grind arith) (omega arith) o)
+      (λ m. split c 0xFFFFF (λ m'. row_completes x 0x80 0xBF 2 _ _ (grind arith) (omega arith) o)
+      (λ m'. row_completes x 0x80 0x8F 2 _ _ (grind arith) (omega arith) o))
 
   pub begins : is_scalar c ≡ true → Begins (octets_of c)
   begins s =

@@ -9,7 +9,8 @@ ghost use Rattle.utf8.specs.Utf8.{tails, leads, lead_in, step, ends, is_utf8};
 enum Stage {
     // Before a character, or behind the last.
     Between,
-    // In one: the next octet must be from the first number to the second, and so many tails must follow it.
+    // In one: the next octet must be from the first number to the second, and so many tails must follow it. The numbers have no names, since a
+    // row of the grammar would then take five lines below.
     Expecting(u8, u8, usize),
     // Behind an octet that no character has there. What follows changes nothing.
     Wrong,
@@ -17,16 +18,18 @@ enum Stage {
 
 impl Stage {
     // So many tails must follow, octets from 80 to BF.
+    #[tactic(auto, unfolding(crate::specs::Utf8::tails))]
     fn tails(count: usize) -> Stage
         ensures { result ≡ tails count }
     {
-        if count == 0 {
-            return Stage::Between;
+        match count {
+            0 => Stage::Between,
+            _ => Stage::Expecting(0x80, 0xBF, count - 1),
         }
-        Stage::Expecting(0x80, 0xBF, count - 1)
     }
 
     // Behind a lead, the first octet of a character: row by row of the grammar.
+    #[tactic(auto, unfolding(crate::specs::Utf8::tails, crate::specs::Utf8::leads, crate::specs::Utf8::lead_in, octets::specs::Ranges::is_between))]
     fn after_lead(octet: u8) -> Stage
         ensures { result ≡ lead_in leads octet }
     {
@@ -45,45 +48,35 @@ impl Stage {
     }
 
     // Behind one octet more.
+    #[tactic(auto, unfolding(crate::specs::Utf8::step, octets::specs::Ranges::is_between))]
     fn step(self, octet: u8) -> Stage
         ensures { result ≡ step self octet }
     {
         match self {
             Stage::Between => Stage::after_lead(octet),
-            Stage::Expecting(low, high, count) => {
-                if octet < low {
-                    return Stage::Wrong;
-                }
-                if high < octet {
-                    return Stage::Wrong;
-                }
-                Stage::tails(count)
-            }
-            Stage::Wrong => Stage::Wrong,
+            Stage::Expecting(low, high, count) if (low..=high).contains(&octet) => Stage::tails(
+                count,
+            ),
+            Stage::Expecting(..) | Stage::Wrong => Stage::Wrong,
         }
     }
 
     // Whether the octets may end here.
+    #[tactic(auto, unfolding(crate::specs::Utf8::ends))]
     fn ends(self) -> bool
         ensures { result ≡ ends self }
     {
-        match self {
-            Stage::Between => true,
-            Stage::Expecting(_, _, _) => false,
-            Stage::Wrong => false,
-        }
+        matches!(self, Stage::Between)
     }
 }
 
 // Whether octets are whole characters and nothing else. A zero is one too.
+#[tactic(auto, unfolding(crate::specs::Utf8::is_utf8))]
 pub fn is_utf8(octets: &[u8]) -> bool
     ensures { result ≡ is_utf8 octets.now }
 {
-    let mut stage = Stage::Between;
-    let mut i: usize = 0;
-    while i < octets.len() {
-        stage = stage.step(octets[i]);
-        i += 1;
-    }
-    stage.ends()
+    octets
+        .iter()
+        .fold(Stage::Between, |stage, octet| stage.step(*octet))
+        .ends()
 }
