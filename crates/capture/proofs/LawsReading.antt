@@ -4,10 +4,11 @@ use mathlib.Core.Bool.{true, false}
 use mathlib.Core.List.{List, ◌++◌}
 use Prim.Native.Nat.{ℕ, ◌+◌, ◌≤◌, ◌<◌}
 use native.Mathlib.Omega.{arith}
-use borrow.Author.Tests.{eq-eqb, ne_eqb, lt-ltb, le-ltb, ltb-false}
+use borrow.Author.Tests.{le-ltb, ltb-false}
 use lib.Dec.{eqb, ltb}
 use lib.ListN.{length, take, drop, length-append, length-drop, get_or-append}
 use lib.Seq.{take-append-le, drop-append-le}
+use Rattle.std.proofs.Common.{rules}
 use Rattle.octets.specs.LittleEndian.{le, le_at}
 use Rattle.octets.proofs.LawsTests.{chosen, impossible}
 use Rattle.capture.specs.Records.{head_size, is_in_range, Located}
@@ -15,36 +16,29 @@ use Rattle.capture.specs.Reading.{Report, one, no_record, has_mark, direction_in
 
 module _ (xs : List ℕ) where
   pub front_end : length xs ≡ 0 → read_front xs ≡ no_record 0
-  unfolding read_front
-  front_end h = rw (eq-eqb (length xs) 0 h)
+  front_end h = search rules
 
   pub front_few : 0 < length xs → length xs < head_size → read_front xs ≡ no_record 22
-  unfolding read_front
-  front_few some few = rw (ne_eqb (length xs) 0 (λ z. omega arith), lt-ltb (length xs) head_size few)
+  front_few some few = search rules
 
   module _ (head : head_size ≤ length xs) where
     pub front_mark : has_mark xs ≡ false → read_front xs ≡ no_record 21
-    unfolding read_front
-    front_mark m = rw (ne_eqb (length xs) 0 (λ z. omega arith), le-ltb (length xs) head_size head, m)
+    front_mark m = search rules
 
     pub front_range : has_mark xs ≡ true → is_in_range (direction_in xs) (length_in xs) ≡ false → read_front xs ≡ no_record 23
-    unfolding read_front
-    front_range m r = rw (ne_eqb (length xs) 0 (λ z. omega arith), le-ltb (length xs) head_size head, m, r)
+    front_range m r = search rules
 
     module _ (m : has_mark xs ≡ true) (r : is_in_range (direction_in xs) (length_in xs) ≡ true) where
       pub front_cut : length xs < head_size + length_in xs → read_front xs ≡ no_record 22
-      unfolding read_front
-      front_cut l = rw (ne_eqb (length xs) 0 (λ z. omega arith), le-ltb (length xs) head_size head, m, r, lt-ltb _ _ l)
+      front_cut l = search rules
 
       pub front_whole : head_size + length_in xs ≤ length xs → read_front xs ≡ one (record_in xs)
-      unfolding read_front
-      front_whole l = rw (ne_eqb (length xs) 0 (λ z. omega arith), le-ltb (length xs) head_size head, m, r, le-ltb _ _ l)
+      front_whole l = search rules
 
 -- ---- octets behind a head change nothing in it
 
 module _ (xs ys : List ℕ) (head : head_size ≤ length xs) where
   mark_then : has_mark (xs ++ ys) ≡ has_mark xs
-  unfolding has_mark
   mark_then = rw (get_or-append xs ys 0 0 (omega arith), get_or-append xs ys 0 1 (omega arith))
 
   direction_then : direction_in (xs ++ ys) ≡ direction_in xs
@@ -59,7 +53,6 @@ module _ (xs ys : List ℕ) (head : head_size ≤ length xs) where
 -- ---- the record at a place
 
 pub read_from_lem : (log : List ℕ) (at : ℕ) → at ≤ length log → read_at log at ≡ placed at (read_front (drop at log))
-unfolding read_at
 read_from_lem log at h = rw (le-ltb (length log) at h)
 
 -- ---- by cases on what stands at the front
@@ -70,7 +63,6 @@ pub data FrontCase (xs : List ℕ) : Report → Type 0 where
       → FrontCase xs (one (record_in xs))
 
 pub front_case : (xs : List ℕ) → FrontCase xs (read_front xs)
-unfolding read_front
 front_case xs =
     chosen (FrontCase xs) (eqb (length xs) 0) (λ _. nothing 0)
     (λ _. chosen (FrontCase xs) (ltb (length xs) head_size) (λ _. nothing 22)

@@ -1,8 +1,8 @@
 -- Laws of records: how long they are, and what is in range.
-use mathlib.Core.Path.{◌≡◌, sym, ap, ◌∙◌}
-use mathlib.Core.Bool.{true, false}
+use mathlib.Core.Path.{◌≡◌, ap, ◌∙◌}
+use mathlib.Core.Bool.{true}
 use mathlib.Core.List.{List, ◌++◌, append_assoc}
-use Prim.Native.Nat.{ℕ, ◌+◌, ◌*◌, ◌≤◌, ◌<◌}
+use Prim.Native.Nat.{ℕ, ◌+◌, ◌*◌, ◌≤◌}
 use native.Mathlib.Omega.{arith}
 use borrow.Author.Tests.{le-leb, leb-true}
 use lib.Dec.{leb}
@@ -12,47 +12,25 @@ use Rattle.octets.specs.LittleEndian.{le, le_at, le_octets}
 use Rattle.octets.proofs.LawsLittleEndian.{length_le}
 use Rattle.octets.proofs.LawsRanges.{inside, inside_told}
 use Rattle.octets.proofs.LittleEndianRoundTrip.{number_back}
-use Rattle.octets.proofs.LawsTests.{both, both_told, by_test}
-use Rattle.std.proofs.Common.{Result, Ok, Err}
+use Rattle.octets.proofs.LawsTests.{both, both_told}
 use Rattle.std.proofs.lemmas.List.{drop_more}
-use Rattle.std.specs.Result.{MatchResult, is_ok}
-use Rattle.capture.specs.declared.reading.ReadError.{ReadError}
-use Rattle.capture.specs.declared.reading.ReadError.TheVariants.{OutOfRange}
-use Rattle.capture.specs.declared.records.Direction.{Direction}
-use Rattle.capture.specs.declared.records.Direction.TheVariants.{ToBox, FromBox}
-use Rattle.capture.specs.Records.{Entry, entry, octet_of, record_of, head_size, is_in_range, Good}
+use Rattle.capture.specs.Records.{Entry, entry, record_of, head_size, is_in_range, Good}
 use Rattle.capture.specs.Reading.{length_in}
 
 pub record_length : (e : Entry) → length (record_of e) ≡ head_size + length e.body
-unfolding record_of
 record_length e = omega (arith, length-append (le_octets 2 (length e.body)) e.body, length_le 2 (length e.body))
 
 -- ---- what is in range: a direction of 0 or 1, and a length of 2 to 1,300
 
 module _ (direction n : ℕ) where
   pub range_told : is_in_range direction n ≡ true → (direction ≤ 1) × (2 ≤ n) × (n ≤ 1300)
-  unfolding is_in_range
   range_told t =
       let b = both_told {a = leb direction 1} t in
       let size = inside_told 2 1300 n b.1 in
       (leb-true direction 1 b.0, size.0, size.1)
 
   pub range_holds : direction ≤ 1 → 2 ≤ n → n ≤ 1300 → is_in_range direction n ≡ true
-  unfolding is_in_range
   range_holds d least most = both _ _ (le-leb direction 1 d) (inside 2 1300 n least most)
-
-  pub range_fails : (direction ≤ 1 → 2 ≤ n → n ≤ 1300 → ⊥) → is_in_range direction n ≡ false
-  range_fails other = by_test (is_in_range direction n) (λ t. let r = range_told t in absurd (other r.0 r.1 r.2)) (λ f. f)
-
-  -- by the direction that an octet stands for
-  pub range_direction : (r : Result Direction ReadError) → MatchResult r (λ d. octet_of d ≡ direction) (λ e. (e ≡ OutOfRange) × (1 < direction))
-      → 2 ≤ n → n ≤ 1300 → is_ok r ≡ is_in_range direction n
-  range_direction (Ok d) e least most = sym (range_holds (at_most d e) least most)
-    where
-      at_most : (d : Direction) → octet_of d ≡ direction → direction ≤ 1
-      at_most ToBox e = omega arith
-      at_most FromBox e = omega arith
-  range_direction (Err x) e least most = sym (range_fails (λ d l m. omega (arith, e.1)))
 
 pub range_good : (direction : ℕ) (body : List ℕ) → is_in_range direction (length body) ≡ true → Good (entry direction body)
 range_good direction body t = let r = range_told direction (length body) t in record { direction = r.0; least = r.1; most = r.2 }
@@ -62,7 +40,7 @@ good_range {e} g = range_holds e.direction (length e.body) g.direction g.least g
 
 -- the length in a record's head
 pub length_back : (e : Entry) (rest : List ℕ) → Good e → length_in (record_of e ++ rest) ≡ length e.body
-unfolding record_of le_at
+unfolding le_at
 length_back e rest g =
     let n : ℕ = length e.body in
     ap le (ap (take 2) (append_assoc (le_octets 2 n) e.body rest) ∙ take_at (le_octets 2 n) (e.body ++ rest) 2 (length_le 2 n))

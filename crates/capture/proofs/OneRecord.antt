@@ -16,7 +16,7 @@ use Rattle.octets.proofs.LawsLists.{octets_drop, octets_take}
 use Rattle.octets.proofs.LawsTests.{by_test, both_told, impossible}
 use Rattle.octets.proofs.LittleEndianRoundTrip.{octets_back}
 use Rattle.capture.specs.Records.{entry, record_of, Good, Located}
-use Rattle.capture.specs.Reading.{Report, one, has_mark, direction_in, length_in, record_in, read_front, shifted, placed, read_at}
+use Rattle.capture.specs.Reading.{Report, one, direction_in, length_in, record_in, read_front, shifted, placed, read_at}
 use Rattle.capture.specs.Logs.{entry_of}
 use Rattle.capture.proofs.LawsRecords.{range_good}
 use Rattle.capture.proofs.LawsReading.{FrontCase, nothing, found, front_case, Front, read_from_lem, front_then, front_is}
@@ -38,7 +38,6 @@ module _ (xs : List ℕ) {r : Located} (f : Front xs r) where
   front_good = range_good (direction_in xs) (take (length_in xs) (drop 5 xs)) (rw body_length f.range)
 
   marks : (get_or xs 0 0 ≡ 0x53) × (get_or xs 1 0 ≡ 0x50)
-  unfolding has_mark
   marks = let b = both_told f.mark in (eqb-true (get_or xs 0 0) 0x53 b.0, eqb-true (get_or xs 1 0) 0x50 b.1)
 
   -- the two octets of the length are those that are written for it
@@ -49,7 +48,6 @@ module _ (xs : List ℕ) {r : Located} (f : Front xs r) where
       ap (λ n. le_octets n (le (take 2 (drop 3 xs)))) (sym two) ∙ octets_back (take 2 (drop 3 xs)) (octets_take 2 (drop 3 xs) (octets_drop 3 xs o))
 
   pub front_octets : Octets xs → take (5 + length_in xs) xs ≡ record_of (entry (direction_in xs) (take (length_in xs) (drop 5 xs)))
-  unfolding record_of
   front_octets o =
       take-add 5 (length_in xs) xs
       ∙ rw (head_octets xs f.head, body_length, length_octets o, marks.0, marks.1)
@@ -62,7 +60,6 @@ shifted_none (r ∷ rs) =
     ap₂ ◌∷◌ (λ i. record { direction = r.direction; start = zero-add r.start i; len = r.len; next = zero-add r.next i }) (shifted_none rs)
 
 pub at_front : (xs : List ℕ) → read_at xs 0 ≡ read_front xs
-unfolding read_at placed
 at_front xs =
     rw (le-ltb (length xs) 0 (omega arith)) (λ i. record { number = (read_front xs).number; found = shifted_none (read_front xs).found i })
 
@@ -82,7 +79,6 @@ module _ (log : List ℕ) (at : ℕ) where
   -- a record at a place is one at the front of what stands from there on
   pub front_at : {r : Located} → read_at log at ≡ one r
       → (at ≤ length log) × Front (drop at log) (record_in (drop at log)) × (r ≡ shifted at (record_in (drop at log)))
-  unfolding read_at placed
   front_at {r} e =
       by_test (ltb (length log) at)
       (λ t. impossible (cc (ap (λ q. q.found) (rw t at e))))
@@ -117,7 +113,7 @@ module _ (log : List ℕ) (at : ℕ) where
 -- what stands behind a record changes nothing in it
 pub record_then : (log more : List ℕ) (at : ℕ) {r : Located} → read_at log at ≡ one r
     → (read_at (log ++ more) at ≡ one r) × (entry_of (log ++ more) r ≡ entry_of log r)
-unfolding entry_of placed
+unfolding entry_of
 record_then log more at e =
     let f = front_at log at e in
     let xs : List ℕ = drop at log in

@@ -10,7 +10,7 @@ use Rattle.octets.specs.LittleEndian.{le_octets}
 use Rattle.octets.proofs.LawsLittleEndian.{length_le}
 use Rattle.octets.proofs.LawsWriting.{sets_append, sets_front}
 use Rattle.capture.specs.Records.{Entry, record_of, Good, Located}
-use Rattle.capture.specs.Reading.{one, has_mark, length_in, read_front, placed, read_at}
+use Rattle.capture.specs.Reading.{one, length_in, read_front, placed, read_at}
 use Rattle.capture.specs.Writing.{Report, put}
 use Rattle.capture.specs.Logs.{log_of, AllGood, none, more, entry_of, with_entry, entries_in, unwritten, write_next, numbers_from, write_all}
 use Rattle.capture.proofs.LawsRecords.{record_length, good_range, length_back}
@@ -26,7 +26,6 @@ parts e = record { direction = e.direction; start = 5; len = length e.body; next
 
 module _ (e : Entry) (rest : List ℕ) (g : Good e) where
   front_back : read_front (record_of e ++ rest) ≡ one (parts e)
-  unfolding record_of has_mark
   front_back =
       let xs : List ℕ = record_of e ++ rest in
       let n : length_in xs ≡ length e.body = length_back e rest g in
@@ -35,7 +34,7 @@ module _ (e : Entry) (rest : List ℕ) (g : Good e) where
       ∙ ap (λ k. one (record { direction = e.direction; start = 5; len = k; next = 5 + k })) n
 
   held_back : entry_of (record_of e ++ rest) (parts e) ≡ e
-  unfolding entry_of record_of
+  unfolding entry_of
   held_back =
       let n : ℕ = length e.body in
       ap (λ b. record { direction = e.direction; body = b })
@@ -56,7 +55,6 @@ module _ (before after : List ℕ) (e : Entry) (g : Good e) where
   place = length before
 
   pub record_back : read_at (before ++ (record_of e ++ after)) place ≡ one (standing place e)
-  unfolding placed
   record_back =
       read_from_lem (before ++ (record_of e ++ after)) place (omega (arith, length-append before (record_of e ++ after)))
       ∙ ap (λ xs. placed place (read_front xs)) (drop-append_seam before (record_of e ++ after))
@@ -104,7 +102,7 @@ record WroteAll (w : Report) (es : List Entry) (xs : List ℕ) : Type 0 where
   held : (foldl write_next w es).space ≡ sets w.space w.next xs
 
 wrote_all : {es : List Entry} (w : Report) → AllGood es → w.next + length (log_of es) ≤ length w.space → WroteAll w es (log_of es)
-unfolding log_of write_next put
+unfolding log_of write_next
 wrote_all w none room = record { numbers = refl; next = omega arith; held = refl }
 wrote_all w (more {e} {es} g gs) room =
     let size = length-append (record_of e) (log_of es) in

@@ -30,7 +30,6 @@ module _ (log : List ℕ) (at : ℕ) where
       ∙ rw (drop-drop 5 at log, drop-drop (5 + n) at log))
 
   pub call_end : {n : ℕ} → at ≤ length log → read_at log at ≡ no_record n → entries_in (drop at log) ≡ ended n
-  unfolding placed
   call_end {n} h e = entries_end (drop at log) (by_case (front_case (drop at log)) (sym (read_from_lem log at h) ∙ e))
     where
       by_case : {q : Report} → FrontCase (drop at log) q → placed at q ≡ no_record n → q ≡ no_record n

@@ -31,7 +31,7 @@ reported (Err e) = no_record (number_of e)
 
 -- ---- the record at the front of octets
 
-unfoldable pub has_mark : List ℕ → Bool
+abbrev pub has_mark : List ℕ → Bool
 has_mark xs = eqb (get_or xs 0 0) 0x53 && eqb (get_or xs 1 0) 0x50
 
 abbrev pub direction_in : List ℕ → ℕ
@@ -46,7 +46,7 @@ record_in xs = record { direction = direction_in xs; start = head_size; len = le
 
 -- "order 22, 21, 23 when reading"; "Cut off means fewer than five octets left or, where mark, direction and length are good, fewer than the
 -- length demands"; where none is left, there are no more: "At the end exactly"
-unfoldable pub read_front : List ℕ → Report
+abbrev pub read_front : List ℕ → Report
 read_front xs =
     cond (eqb (length xs) 0) (no_record 0)
     (cond (ltb (length xs) head_size) (no_record 22)
@@ -61,9 +61,9 @@ read_front xs =
 abbrev pub shifted : ℕ → Located → Located
 shifted n r = record { direction = r.direction; start = n + r.start; len = r.len; next = n + r.next }
 
-unfoldable pub placed : ℕ → Report → Report
+abbrev pub placed : ℕ → Report → Report
 placed n r = record { number = r.number; found = map (shifted n) r.found }
 
 -- "a place past the end is 22 when reading"
-unfoldable pub read_at : List ℕ → ℕ → Report
+abbrev pub read_at : List ℕ → ℕ → Report
 read_at log at = cond (ltb (length log) at) (no_record 22) (placed at (read_front (drop at log)))

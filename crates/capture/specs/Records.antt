@@ -27,7 +27,7 @@ abbrev pub octet_of : Direction → ℕ
 octet_of ToBox = to_box
 octet_of FromBox = from_box
 
-unfoldable pub record_of : Entry → List ℕ
+abbrev pub record_of : Entry → List ℕ
 record_of e = 0x53 ∷ 0x50 ∷ e.direction ∷ le_octets 2 (length e.body) ++ e.body
 
 -- how many octets stand before the body
@@ -45,7 +45,7 @@ abbrev pub located : Record → Located
 located r = record { direction = octet_of r.direction; start = r.start; len = r.len; next = r.next }
 
 -- a direction, and how many octets a body has
-unfoldable pub is_in_range : ℕ → ℕ → Bool
+abbrev pub is_in_range : ℕ → ℕ → Bool
 is_in_range direction len = leb direction from_box && is_between min_body max_body len
 
 -- an entry that can be recorded

@@ -25,11 +25,11 @@ reported (Ok next) space = record { number = 0; next = next; space = space }
 reported (Err e) space = refused (number_of e) space
 
 -- the record from a place on; every other octet stays
-unfoldable pub put : List ℕ → ℕ → List ℕ → Report
+abbrev pub put : List ℕ → ℕ → List ℕ → Report
 put space at xs = record { number = 0; next = at + length xs; space = sets space at xs }
 
 -- order "23, 24 when writing"; "24 no room", and "a place past the end is .. 24 when writing"
-unfoldable pub writing : List ℕ → ℕ → ℕ → List ℕ → Report
+abbrev pub writing : List ℕ → ℕ → ℕ → List ℕ → Report
 writing space at direction body =
     let xs = record_of (entry direction body) in
     cond (is_in_range direction (length body))
