@@ -3,12 +3,12 @@
 use mathlib.Core.Path.{◌≡◌, refl, sym}
 use mathlib.Core.Bool.{Bool, true, false, cond, not, ◌&&◌, ◌||◌}
 use mathlib.Core.List.{List, [], ◌∷◌}
-use Prim.Native.Nat.{ℕ, zero, suc, ◌^◌, ◌<◌, ◌≤◌}
-use native.Mathlib.Omega.{arith}
+use Prim.Native.Nat.{ℕ, suc, ◌^◌, ◌<◌, ◌≤◌}
 use borrow.Author.Tests.{eqb-true, ltb-true, leb-true}
 use lib.Dec.{eqb, ltb, leb}
-use lib.ListN.{length, get_or}
+use lib.ListN.{get_or}
 use Rattle.std.specs.Prelude.{Option, None, Some, find}
+use Rattle.std.specs.List.{list_all}
 use Rattle.octets.specs.Scanning.{all_from, all_below}
 use Rattle.octets.proofs.LawsScanning.{all_at}
 use Rattle.octets.proofs.LawsTests.{by_test, chosen, and_l, and_r}
@@ -41,34 +41,19 @@ pub power_keeps : number_rule power_state ≡ true
 unfolding within
 power_keeps = refl
 
--- a row that is found is one of the table's, and that of the property asked for
-abbrev pub FoundIn : List Row → ℕ → Option Row → Type 0
-FoundIn rs id None = Unit {0}
-FoundIn rs id (Some r) = (i : ℕ) × (i < length rs) × (get_or rs i no_row ≡ r) × (r.id ≡ id)
-
-later : (x : Row) (rs : List Row) (id : ℕ) (f : Option Row) → FoundIn rs id f → FoundIn (x ∷ rs) id f
-later x rs id None h = tt
-later x rs id (Some r) h = (suc h.0, omega arith, h.2, h.3)
-
-found_in : (rs : List Row) (id : ℕ) → FoundIn rs id (find (λ r. eqb r.id id) rs)
-found_in [] id = tt
-found_in (r ∷ rs) id =
-    chosen (FoundIn (r ∷ rs) id) (eqb r.id id) (λ e. (zero, omega arith, refl, eqb-true r.id id e))
-    (λ e. later r rs id (find (λ r. eqb r.id id) rs) (found_in rs id))
-
 -- what is looked up keeps the rule, and is the property asked for
 abbrev pub Asked : ℕ → Option Row → Type 0
 Asked id None = Unit {0}
 Asked id (Some r) = (row_rule r ≡ true) × (r.id ≡ id)
 
-asked : (id : ℕ) (f : Option Row) → FoundIn rows id f → Asked id f
-unfolding rows
-asked id None h = tt
-asked id (Some r) h = (rw (← h.2) (rows_keep h.0 h.1), h.3)
+asked_in : (rs : List Row) (id : ℕ) → list_all row_rule rs ≡ true → Asked id (find (λ r. eqb r.id id) rs)
+asked_in [] id t = tt
+asked_in (r ∷ rs) id t =
+    chosen (Asked id) (eqb r.id id) (λ e. (and_l (row_rule r) _ t, eqb-true r.id id e)) (λ e. asked_in rs id (and_r (row_rule r) _ t))
 
 pub lookup_asked : (id : ℕ) → Asked id (lookup id)
-unfolding lookup
-lookup_asked id = asked id (find (λ r. eqb r.id id) rows) (found_in rows id)
+unfolding lookup rows ids
+lookup_asked id = asked_in rows id refl
 
 keeps : (id : ℕ) (f : Option Row) → Asked id f → KeepsRule f
 keeps id None a = tt
