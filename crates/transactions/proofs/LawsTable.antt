@@ -2,16 +2,17 @@
 use mathlib.Core.Path.{◌≡◌, refl, sym, ap, ap₂, ◌∙◌}
 use mathlib.Core.Bool.{Bool, true, false, not, ◌&&◌}
 use mathlib.Core.List.{List, [], ◌∷◌}
-use Prim.Native.Nat.{ℕ, zero, suc, ◌%◌, ◌^◌, ◌<◌}
+use Prim.Native.Nat.{ℕ, zero, suc, ◌%◌, ◌^◌, ◌<◌, ◌≤◌}
 use native.Mathlib.Omega.{arith}
-use borrow.Author.Tests.{eqb-false, not-true}
-use lib.Dec.{eqb}
+use borrow.Author.Tests.{eqb-false, not-true, ltb-true, ltb-false}
+use lib.Dec.{eqb, ltb}
 use lib.ListN.{get_or, set, drop}
 use lib.Bits.{bit_and, bit_or}
+use Rattle.std.specs.Prelude.{Some, None}
 use Rattle.octets.proofs.LawsTests.{by_test, and_l, and_r, impossible}
 use Rattle.transactions.specs.declared.table.Table.{Table}
 use Rattle.transactions.specs.NumberSet.{digits}
-use Rattle.transactions.specs.Table.{Mark, free, waiting, given_up, both, mark, marks_of, Numbers, numbers_of, mark_at, put, is_free, is_waiting, is_both, any_both, Rules, rules, first_free, lowest}
+use Rattle.transactions.specs.Table.{Mark, free, waiting, given_up, both, mark, marks_of, Numbers, numbers_of, mark_at, put, is_free, is_waiting, is_both, any_both, Rules, rules, first_free, lowest, free_number}
 use Rattle.transactions.proofs.LawsDigits.{length_digits, digit_small, digit_past, digits_kept}
 use Rattle.transactions.proofs.LawsMarks.{marks_at, marks_set, is_free_lowest, any_both_and}
 
@@ -156,3 +157,12 @@ free_gave t n e = none (waits t n) (gave t n) (sym (mark_at_lem t n refl refl) �
     none zero (suc y) f = impossible cc
     none (suc x) zero f = refl
     none (suc x) (suc y) f = impossible cc
+
+-- what the code's search tells of it
+pub one_free : (d : Numbers) (n : ℕ) → Some n ≡ free_number d → (n ≡ lowest d) × (n ≤ 15)
+one_free d n =
+    by_test (ltb 15 (lowest d)) (λ t. simp t (λ e. absurd cc))
+    (λ t. simp t (λ e. let same : n ≡ lowest d = cc in (same, rw same (ltb-false 15 (lowest d) t))))
+
+pub none_free : (d : Numbers) → None ≡ free_number d → 15 < lowest d
+none_free d = by_test (ltb 15 (lowest d)) (λ t e. ltb-true 15 (lowest d) t) (λ t. simp t (λ e. absurd cc))

@@ -15,9 +15,10 @@ use Rattle.octets.specs.Body.{header_of, SpinelBody}
 use Rattle.octets.specs.Octets.{Octets}
 use Rattle.octets.proofs.LawsTests.{by_test}
 use Rattle.octets.proofs.LawsLists.{octets_more, octets_append}
-use Rattle.packed.specs.Packed.{packed, packed_in, packed_at}
+use Rattle.std.specs.Prelude.{Result, Ok, Err}
+use Rattle.packed.specs.Packed.{packed, packed_in, packed_at, read}
+use Rattle.packed.specs.declared.Fault.{Fault}
 use Rattle.packed.specs.declared.Packed.{Packed}
-use Rattle.packed.specs.declared.Packed.TheVariants.{Number, Unreadable}
 use Rattle.packed.proofs.ReadsBack.{packed_size, packed_octets, reads_back}
 use Rattle.packed.proofs.OneSpelling.{octet_alone}
 use Rattle.octets.specs.LittleEndian.{le_octets}
@@ -32,9 +33,9 @@ use Rattle.transactions.proofs.LawsKind.{header_top, header_link, header_number}
 use Rattle.transactions.proofs.LawsExchange.{reset_is}
 use Rattle.transactions.proofs.LawsWriting.{sendable_told, sendable_holds, body_size, fits_not, fits_written, command_none, command_long, command_fitting}
 
-abbrev number_is : Packed → ℕ
-number_is (Number n next) = n
-number_is (Unreadable f) = 0
+abbrev number_is : Result Packed Fault → ℕ
+number_is (Ok p) = p.number
+number_is (Err f) = 0
 
 -- ---- what is written, and where nothing is
 
@@ -70,7 +71,7 @@ module _ (l n c : ℕ) (payload : List ℕ) (fit : Sendable l n c) where
       let number : n < 16 = omega (arith, fit.most) in
       (header_top l n link number, header_link l n link number, header_number l n number)
 
-  pub command_back : packed_at body 1 ≡ Number c (1 + length (packed c))
+  pub command_back : packed_at body 1 ≡ read c (1 + length (packed c))
   command_back = reads_back (header l n ∷ []) payload c fit.packs
 
   pub payload_behind : drop (1 + length (packed c)) body ≡ payload
@@ -87,7 +88,7 @@ module _ (l n c : ℕ) (payload : List ℕ) (fit : Sendable l n c) where
   second_octet e =
       let inside : 1 < length body = omega (arith, body_size l n c payload, (packed_size c).0) in
       let alone = octet_alone body 1 inside (rw e (omega arith)) in
-      let same : Number c (1 + length (packed c)) ≡ Number 1 2 = sym command_back ∙ alone ∙ ap (λ x. Number x 2) e in
+      let same : read c (1 + length (packed c)) ≡ read 1 2 = sym command_back ∙ alone ∙ ap (λ x. read x 2) e in
       fit.other (ap number_is same)
 
   pub no_reset : (links : ℕ) → is_reset links body ≡ false

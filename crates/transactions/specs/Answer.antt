@@ -1,9 +1,9 @@
 -- What the table answers, by 02's words and numbers (T-06).
-use Rattle.std.specs.Prelude.{ℕ}
+use Rattle.std.specs.Prelude.{ℕ, Result, Ok, Err}
 use Rattle.transactions.specs.declared.answer.Refusal.{Refusal}
 use Rattle.transactions.specs.declared.answer.Refusal.TheVariants.{BadTable, Full, NotWaiting, Resetting}
 use Rattle.transactions.specs.declared.answer.Answer.{Answer}
-use Rattle.transactions.specs.declared.answer.Answer.TheVariants.{Opened, Allowed, GivenUp, Answered, Late, Announced, Stray, Refused}
+use Rattle.transactions.specs.declared.answer.Answer.TheVariants.{Opened, Allowed, GivenUp, Answered, Late, Announced, Stray}
 
 pub data Word : Type 0 where
   opened allowed gave_up answered late announced stray refused : Word
@@ -28,12 +28,15 @@ refusal_number Full = 31
 refusal_number NotWaiting = 32
 refusal_number Resetting = 33
 
-abbrev pub reported : Answer → Report
-reported (Opened n) = says opened n
-reported Allowed = says allowed 0
-reported GivenUp = says gave_up 0
-reported (Answered n) = says answered n
-reported (Late n) = says late n
-reported Announced = says announced 0
-reported Stray = says stray 0
-reported (Refused why) = refusal (refusal_number why)
+abbrev pub answer_report : Answer → Report
+answer_report (Opened n) = says opened n
+answer_report Allowed = says allowed 0
+answer_report GivenUp = says gave_up 0
+answer_report (Answered n) = says answered n
+answer_report (Late n) = says late n
+answer_report Announced = says announced 0
+answer_report Stray = says stray 0
+
+abbrev pub reported : Result Answer Refusal → Report
+reported (Ok a) = answer_report a
+reported (Err why) = refusal (refusal_number why)

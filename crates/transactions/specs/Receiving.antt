@@ -1,34 +1,34 @@
 -- The host's receiving call: frames from the cable, and the table that is told their bodies (01, Octets on the wire; 02, T-06).
-use Rattle.std.specs.Prelude.{Bool, cond, not, ◌&&◌, List, [], ◌∷◌, ℕ, eqb, ltb, length, take}
+use Rattle.std.specs.Prelude.{Bool, cond, not, ◌&&◌, List, [], ◌∷◌, ℕ, Result as RustResult, Ok, Err, eqb, ltb, length, take}
 use Rattle.hdlc.specs.declared.reader.Reader.{Reader}
 use Rattle.hdlc.specs.Fate.{fate_number}
 use Rattle.hdlc.specs.Reader.{max_gathered, assembling, Outcome, run}
 use Rattle.hdlc.specs.Rules.{rules as reader_rules}
 use Rattle.transactions.specs.declared.receiving.Heard.{Heard}
-use Rattle.transactions.specs.declared.receiving.Heard.TheVariants.{Read, Body, BadState, SmallAssembly}
+use Rattle.transactions.specs.declared.receiving.Heard.TheVariants.{Read, Body}
+use Rattle.transactions.specs.declared.receiving.ReceiveRefusal.{ReceiveRefusal}
+use Rattle.transactions.specs.declared.receiving.ReceiveRefusal.TheVariants.{BadState, SmallAssembly}
 use Rattle.transactions.specs.declared.receiving.Received.{Received}
 use Rattle.transactions.specs.Answer.{Report, reported}
 use Rattle.transactions.specs.Table.{Numbers, numbers_of, rules, Result, after_reply}
 
 -- 01's number of what a call tells; what the table reported, where it was told a body
-abbrev pub number_of : Heard → ℕ
-number_of (Read f) = fate_number f
-number_of (Body n a) = 1
-number_of BadState = 11
-number_of SmallAssembly = 12
+abbrev pub number_of : RustResult Heard ReceiveRefusal → ℕ
+number_of (Ok (Read f)) = fate_number f
+number_of (Ok (Body n a)) = 1
+number_of (Err BadState) = 11
+number_of (Err SmallAssembly) = 12
 
-abbrev pub reports_in : Heard → List Report
-reports_in (Read f) = []
-reports_in (Body n a) = reported a ∷ []
-reports_in BadState = []
-reports_in SmallAssembly = []
+abbrev pub reports_in : RustResult Heard ReceiveRefusal → List Report
+reports_in (Ok (Read f)) = []
+reports_in (Ok (Body n a)) = reported a ∷ []
+reports_in (Err why) = []
 
 -- the body of a checked frame, from the front of the assembly buffer
-abbrev pub body_in : Heard → List ℕ → List ℕ
-body_in (Read f) a = []
-body_in (Body n x) a = take n a
-body_in BadState a = []
-body_in SmallAssembly a = []
+abbrev pub body_in : RustResult Heard ReceiveRefusal → List ℕ → List ℕ
+body_in (Ok (Read f)) a = []
+body_in (Ok (Body n x)) a = take n a
+body_in (Err why) a = []
 
 -- what a call returns, and every octet of the buffer that it was lent
 pub record Reception : Type 0 where

@@ -1,6 +1,7 @@
 -- The host's table of transaction numbers (02, T-06). 02 calls it the desk: "It holds numbers 1 to 15, each free, waiting or given up."
-use Rattle.std.specs.Prelude.{Bool, true, false, cond, not, ◌&&◌, List, [], ◌∷◌, ◌≢◌, ◌≡◌, ℕ, zero, suc, ltb, get_or, set, drop, replicate}
+use Rattle.std.specs.Prelude.{Bool, true, false, cond, not, ◌&&◌, List, [], ◌∷◌, ◌≢◌, ◌≡◌, ℕ, zero, suc, Option, Some, None, Result as RustResult, ltb, get_or, set, drop, replicate}
 use Rattle.transactions.specs.declared.answer.Answer.{Answer}
+use Rattle.transactions.specs.declared.answer.Refusal.{Refusal}
 use Rattle.transactions.specs.declared.kind.BodyKind.{BodyKind}
 use Rattle.transactions.specs.declared.kind.BodyKind.TheVariants.{Announcement, Reply, Other}
 use Rattle.transactions.specs.declared.table.Step.{Step}
@@ -83,7 +84,7 @@ pub record Result : Type 0 where
   pub report : Report
   pub numbers : Numbers
 
-abbrev pub result : Answer → Table → Result
+abbrev pub result : RustResult Answer Refusal → Table → Result
 result a t = record { report = reported a; numbers = numbers_of t }
 
 abbrev pub result_of : Step → Result
@@ -106,6 +107,10 @@ first_free (m ∷ ms) = cond (is_free m) 0 (suc (first_free ms))
 -- the lowest free number from 1 on; 16 where there is none
 unfoldable pub lowest : Numbers → ℕ
 lowest d = suc (first_free (drop 1 d.marks))
+
+-- the same, none where there is none
+abbrev pub free_number : Numbers → Option ℕ
+free_number d = cond (ltb max_number (lowest d)) None (Some (lowest d))
 
 -- "Opening a question hands out the lowest free number .. and is refused exactly when none is free (31)"; 33 is "tried before 31", and 11 is
 -- "before all else"

@@ -1,9 +1,9 @@
-// What the table answers.
+// What the table answers where it does not refuse, and why it refuses.
 ghost use Rattle.std.specs.Prelude.{◌≡◌};
-ghost use Rattle.transactions.specs.Answer.{refusal_number, reported};
+ghost use Rattle.transactions.specs.Answer.{refusal_number};
 
 // Why a call is refused, with 02's number of each reason.
-#[derive(Clone, Copy)]
+#[derive(Clone, Copy, PartialEq, Eq)]
 pub enum Refusal {
     // 11: the table breaks its own rules.
     BadTable,
@@ -15,7 +15,7 @@ pub enum Refusal {
     Resetting,
 }
 
-#[derive(Clone, Copy)]
+#[derive(Clone, Copy, PartialEq, Eq)]
 pub enum Answer {
     // Of `open`: a question may be asked under this number.
     Opened(u8),
@@ -31,8 +31,6 @@ pub enum Answer {
     Announced,
     // A body that answers nothing.
     Stray,
-    // Of every call.
-    Refused(Refusal),
 }
 
 impl Refusal {
@@ -45,24 +43,6 @@ impl Refusal {
             Refusal::Full => 31,
             Refusal::NotWaiting => 32,
             Refusal::Resetting => 33,
-        }
-    }
-}
-
-impl Answer {
-    // 02's number of a refusal; 0 where nothing is refused.
-    pub fn number(self) -> u32
-        ensures { result ≡ (reported self).number }
-    {
-        match self {
-            Answer::Opened(_) => 0,
-            Answer::Allowed => 0,
-            Answer::GivenUp => 0,
-            Answer::Answered(_) => 0,
-            Answer::Late(_) => 0,
-            Answer::Announced => 0,
-            Answer::Stray => 0,
-            Answer::Refused(why) => why.number(),
         }
     }
 }

@@ -3,37 +3,39 @@
 ghost use Rattle.std.specs.Prelude.{◌≡◌};
 ghost use Rattle.transactions.specs.Table.{numbers_of, result as outcome, after_open, after_reset, after_give_up, after_reply};
 
-use crate::answer::Answer;
-use crate::table::Table;
+use crate::answer::{Answer, Refusal};
+use crate::table::{Step, Table};
 
-pub fn open(table: &mut Table) -> Answer
+// One call on the table where it stands.
+fn change<F: FnOnce(Table) -> Step>(table: &mut Table, call: F) -> Result<Answer, Refusal>
+    requires { F.pre call table.old }
+    ensures { F.post call table.old (record { answer = result; table = table.new }) }
+{
+    let next = call(*table);
+    *table = next.table;
+    next.answer
+}
+
+pub fn open(table: &mut Table) -> Result<Answer, Refusal>
     ensures { outcome result table.new ≡ after_open (numbers_of table.old) }
 {
-    let next = table.open();
-    *table = next.table;
-    next.answer
+    change(table, |table| table.open())
 }
 
-pub fn reset(table: &mut Table) -> Answer
+pub fn reset(table: &mut Table) -> Result<Answer, Refusal>
     ensures { outcome result table.new ≡ after_reset (numbers_of table.old) }
 {
-    let next = table.reset();
-    *table = next.table;
-    next.answer
+    change(table, |table| table.reset())
 }
 
-pub fn give_up(table: &mut Table, number: u8) -> Answer
+pub fn give_up(table: &mut Table, number: u8) -> Result<Answer, Refusal>
     ensures { outcome result table.new ≡ after_give_up (numbers_of table.old) number }
 {
-    let next = table.give_up(number);
-    *table = next.table;
-    next.answer
+    change(table, |table| table.give_up(number))
 }
 
-pub fn reply(table: &mut Table, body: &[u8]) -> Answer
+pub fn reply(table: &mut Table, body: &[u8]) -> Result<Answer, Refusal>
     ensures { outcome result table.new ≡ after_reply (numbers_of table.old) body.now }
 {
-    let next = table.reply(body);
-    *table = next.table;
-    next.answer
+    change(table, |table| table.reply(body))
 }

@@ -1,10 +1,10 @@
 // What a body that comes from the box is to the table.
 ghost use Rattle.std.specs.Prelude.{◌≡◌};
-ghost use Rattle.transactions.specs.Kind.{kind};
 
 use octets::{Body, same_octets};
 
-#[derive(Clone, Copy)]
+// Three cases and no Option: 02 has a rule for each, also for what is no Spinel body.
+#[derive(Clone, Copy, PartialEq, Eq)]
 pub enum BodyKind {
     // The announcement of a reset.
     Announcement,
@@ -14,20 +14,19 @@ pub enum BodyKind {
     Other,
 }
 
-pub fn kind_of(body: &[u8]) -> BodyKind
-    ensures { result ≡ kind body.now }
-{
-    if same_octets(body, &[0x80, 0x06, 0x00, 0x72]) {
-        return BodyKind::Announcement;
+impl BodyKind {
+    ghost use Rattle.transactions.specs.Kind.{kind};
+
+    #[tactic(auto, unfolding(crate::specs::Kind::kind))]
+    pub fn of(body: &[u8]) -> BodyKind
+        ensures { result ≡ kind body.now }
+    {
+        if same_octets(body, &[0x80, 0x06, 0x00, 0x72]) {
+            return BodyKind::Announcement;
+        }
+        if body.len() < Body::MIN_OCTETS || Body::MAX_OCTETS < body.len() || body[0] / 64 != 2 {
+            return BodyKind::Other;
+        }
+        BodyKind::Reply(body[0] % 16)
     }
-    if body.len() < Body::MIN_OCTETS {
-        return BodyKind::Other;
-    }
-    if Body::MAX_OCTETS < body.len() {
-        return BodyKind::Other;
-    }
-    if body[0] / 64 != 2 {
-        return BodyKind::Other;
-    }
-    BodyKind::Reply(body[0] % 16)
 }

@@ -12,6 +12,6 @@ mod writing;
 
 pub use answer::{Answer, Refusal};
 pub use in_place::{give_up, open, reply, reset};
-pub use receiving::{Heard, Received, receive};
+pub use receiving::{Heard, ReceiveRefusal, Received, receive};
 pub use table::{Step, Table};
 pub use writing::{write_command, write_reset};

@@ -1,4 +1,5 @@
-// Sets of transaction numbers as the bits of a u16: number n is in a set where the bit of weight 2^n is 1.
+// Sets of transaction numbers as the bits of a u16: number n is in a set where the bit of weight 2^n is 1. They are functions of the u16 itself,
+// which is the form of the table's public fields.
 ghost use Rattle.std.specs.Prelude.{◌≡◌, ◌<◌, eqb, get_or, set};
 ghost use Rattle.transactions.specs.NumberSet.{digits};
 
@@ -13,12 +14,12 @@ pub fn with(bits: u16, number: u8) -> u16
     requires { number < 16 }
     ensures { digits 16 result ≡ set (digits 16 bits) number 1 }
 {
-    bits | (1u16 << number)
+    bits | (1 << number)
 }
 
 pub fn without(bits: u16, number: u8) -> u16
     requires { number < 16 }
     ensures { digits 16 result ≡ set (digits 16 bits) number 0 }
 {
-    bits & !(1u16 << number)
+    bits & !(1 << number)
 }

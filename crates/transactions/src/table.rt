@@ -1,13 +1,13 @@
 // The table by value: each call takes a table and hands the next one back.
 ghost use Rattle.std.specs.Prelude.{true, ◌≡◌, ◌<◌};
 ghost use Rattle.transactions.specs.Answer.{refusal_number};
-ghost use Rattle.transactions.specs.Table.{numbers_of, fresh, rules, mark_at, lowest, result_of, refused, by_mark, after_open, after_reset, after_give_up, after_reply};
+ghost use Rattle.transactions.specs.Table.{numbers_of, fresh, rules, mark_at, free_number, result_of, refused, by_mark, after_open, after_reset, after_give_up, after_reply};
 
 use crate::answer::{Answer, Refusal};
-use crate::kind::{BodyKind, kind_of};
+use crate::kind::BodyKind;
 use crate::number_set::{has, with, without};
 
-#[derive(Clone, Copy)]
+#[derive(Clone, Copy, PartialEq, Eq)]
 pub struct Table {
     // The numbers under which a question waits for its reply, as the bits of weight 2^1 to 2^15.
     pub waiting: u16,
@@ -18,9 +18,9 @@ pub struct Table {
 }
 
 // What a call answers, and the table after it.
-#[derive(Clone, Copy)]
+#[derive(Clone, Copy, PartialEq, Eq)]
 pub struct Step {
-    pub answer: Answer,
+    pub answer: Result<Answer, Refusal>,
     pub table: Table,
 }
 
@@ -43,27 +43,27 @@ impl Table {
     pub fn keeps_rules(self) -> bool
         ensures { result ≡ rules (numbers_of self) }
     {
-        let waiting = self.waiting;
-        let given_up = self.given_up;
-        if (waiting | given_up) % 2 == 1 {
-            return false;
-        }
-        waiting & given_up == 0
+        (self.waiting | self.given_up) % 2 == 0 && self.waiting & self.given_up == 0
     }
 
-    // The lowest free number from 1 on; 16 where none is free.
-    fn lowest_free(self) -> u8
-        ensures { result ≡ lowest (numbers_of self) }
+    // The lowest free number from 1 on.
+    fn lowest_free(self) -> Option<u8>
+        ensures { result ≡ free_number (numbers_of self) }
     {
         let free = !(self.waiting | self.given_up | 1);
-        u16::trailing_zeros(free) as u8
+        let number = free.trailing_zeros() as u8;
+        if number <= Table::MAX_NUMBER {
+            Some(number)
+        } else {
+            None
+        }
     }
 
     fn refused(self, why: Refusal) -> Step
         ensures { result_of result ≡ refused (refusal_number why) (numbers_of self) }
     {
         Step {
-            answer: Answer::Refused(why),
+            answer: Err(why),
             table: self,
         }
     }
@@ -78,17 +78,15 @@ impl Table {
         if self.resetting {
             return self.refused(Refusal::Resetting);
         }
-        let number = self.lowest_free();
-        if Table::MAX_NUMBER < number {
-            return self.refused(Refusal::Full);
-        }
-        Step {
-            answer: Answer::Opened(number),
-            table: Table {
-                waiting: with(self.waiting, number),
-                given_up: self.given_up,
-                resetting: self.resetting,
+        match self.lowest_free() {
+            Some(number) => Step {
+                answer: Ok(Answer::Opened(number)),
+                table: Table {
+                    waiting: with(self.waiting, number),
+                    ..self
+                },
             },
+            None => self.refused(Refusal::Full),
         }
     }
 
@@ -103,11 +101,10 @@ impl Table {
             return self.refused(Refusal::Resetting);
         }
         Step {
-            answer: Answer::Allowed,
+            answer: Ok(Answer::Allowed),
             table: Table {
-                waiting: self.waiting,
-                given_up: self.given_up,
                 resetting: true,
+                ..self
             },
         }
     }
@@ -119,18 +116,15 @@ impl Table {
         if !self.keeps_rules() {
             return self.refused(Refusal::BadTable);
         }
-        if Table::MAX_NUMBER < number {
-            return self.refused(Refusal::NotWaiting);
-        }
-        if !has(self.waiting, number) {
+        if number > Table::MAX_NUMBER || !has(self.waiting, number) {
             return self.refused(Refusal::NotWaiting);
         }
         Step {
-            answer: Answer::GivenUp,
+            answer: Ok(Answer::GivenUp),
             table: Table {
                 waiting: without(self.waiting, number),
                 given_up: with(self.given_up, number),
-                resetting: self.resetting,
+                ..self
             },
         }
     }
@@ -142,26 +136,24 @@ impl Table {
     {
         if has(self.waiting, number) {
             return Step {
-                answer: Answer::Answered(number),
+                answer: Ok(Answer::Answered(number)),
                 table: Table {
                     waiting: without(self.waiting, number),
-                    given_up: self.given_up,
-                    resetting: self.resetting,
+                    ..self
                 },
             };
         }
         if has(self.given_up, number) {
             return Step {
-                answer: Answer::Late(number),
+                answer: Ok(Answer::Late(number)),
                 table: Table {
-                    waiting: self.waiting,
                     given_up: without(self.given_up, number),
-                    resetting: self.resetting,
+                    ..self
                 },
             };
         }
         Step {
-            answer: Answer::Stray,
+            answer: Ok(Answer::Stray),
             table: self,
         }
     }
@@ -173,14 +165,14 @@ impl Table {
         if !self.keeps_rules() {
             return self.refused(Refusal::BadTable);
         }
-        match kind_of(body) {
+        match BodyKind::of(body) {
             BodyKind::Announcement => Step {
-                answer: Answer::Announced,
+                answer: Ok(Answer::Announced),
                 table: Table::fresh(),
             },
             BodyKind::Reply(number) => self.reply_to(number),
             BodyKind::Other => Step {
-                answer: Answer::Stray,
+                answer: Ok(Answer::Stray),
                 table: self,
             },
         }

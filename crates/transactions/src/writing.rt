@@ -1,4 +1,5 @@
-// What the host sends: commands under a transaction number, and resets.
+// What the host sends: commands under a transaction number, and resets. A writer that writes nothing returns 0, the count that its promise names
+// (`writing_command`, `writing_reset`), and no Result.
 ghost use Rattle.std.specs.Prelude.{◌≡◌};
 ghost use Rattle.octets.specs.Body.{Body as IsBody};
 ghost use Rattle.frame.specs.Frame.{written};
@@ -16,22 +17,14 @@ const MAX_LINK: u8 = 3;
 const MAX_FRAME: usize = 2 * Body::MAX_OCTETS + 6;
 
 // Whether the link and the number fit a header, the number is one that is handed out, the command can be packed, and it is no RESET.
+#[tactic(auto, unfolding(crate::specs::Writing::is_sendable))]
 fn is_sendable(link: u8, number: u8, command: u32) -> bool
     ensures { result ≡ is_sendable link number command }
 {
-    if MAX_LINK < link {
-        return false;
-    }
-    if number < 1 {
-        return false;
-    }
-    if Table::MAX_NUMBER < number {
-        return false;
-    }
-    if Packed::MAX < command {
-        return false;
-    }
-    command != 1
+    link <= MAX_LINK
+        && (1..=Table::MAX_NUMBER).contains(&number)
+        && command <= Packed::MAX
+        && command != 1
 }
 
 // Writes a body's frame where there is not room for every frame of its length. How long this one is shows when it is made, in a space of its own.

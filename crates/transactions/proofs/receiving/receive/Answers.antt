@@ -2,17 +2,19 @@
 use mathlib.Core.Bool.{false}
 use mathlib.Core.Path.{◌≡◌, sym, ap, ◌∙◌}
 use Prim.Native.Nat.{◌≤◌}
+use borrow.Author.Rules.{rules}
+use Rattle.std.specs.Prelude.{Err}
+use Rattle.transactions.specs.declared.receiving.ReceiveRefusal.TheVariants.{BadState, SmallAssembly}
 use lib.ListN.{length, take}
 use lib.Seq.{length-take-le}
 use Rattle.octets.specs.Body.{SpinelBody}
 use Rattle.hdlc.specs.declared.reader.Fate.TheVariants.{Checked}
 use Rattle.hdlc.specs.Reader.{assembling, outcome, run}
 use Rattle.hdlc.proofs.ReaderRules.{rules_told}
-use Rattle.hdlc.proofs.CheckedBodies.{checked_count, tag_unchecked}
+use Rattle.hdlc.proofs.CheckedBodies.{checked_count, other_unchecked}
 use Rattle.transactions.specs.Table.{numbers_of}
 use Rattle.transactions.specs.Receiving.{told, unrefused, breaks_rules, receive}
 use Rattle.transactions.proofs.LawsReceiving.{rules_kept, receive_11, receive_12, receive_run}
-use borrow.Enum.Refused.{opened}
 use Rattle.transactions.proofs.receiving.receive.Goals as goal
 use Rattle.transactions.proofs.receiving.receive.Goals.{After-read_frame-reading, In-Checked}
 
@@ -36,12 +38,15 @@ rest c =
 pub returns-then-breaks_rules : goal.returns-then-breaks_rules
 unfolding unrefused
 returns-then-breaks_rules c =
-    rw c.untold.ensures (sym (receive_11 _ _ _ _ (sym c.breaks_rules.ensures ∙ c.if-breaks_rules.true)))
+    let e : c.refused.result ≡ record { heard = Err BadState; read = 0; table = c.args.table; reader = c.args.reader } = search rules in
+    rw e (sym (receive_11 _ _ _ _ (sym c.breaks_rules.ensures ∙ c.if-breaks_rules.true)))
 
 pub returns-then-assembly-lt-MAX_GATHERED : goal.returns-then-assembly-lt-MAX_GATHERED
 unfolding unrefused
 returns-then-assembly-lt-MAX_GATHERED c =
-    rw c.untold-then-assembly-lt-MAX_GATHERED.ensures (sym (receive_12 _ _ _ _ (sym c.breaks_rules.ensures ∙ c.if-breaks_rules.false) c.if-assembly-lt-MAX_GATHERED.true))
+    let k = c.refused-then-assembly-lt-MAX_GATHERED in
+    let e : k.result ≡ record { heard = Err SmallAssembly; read = 0; table = c.args.table; reader = c.args.reader } = search rules in
+    rw e (sym (receive_12 _ _ _ _ (sym c.breaks_rules.ensures ∙ c.if-breaks_rules.false) c.if-assembly-lt-MAX_GATHERED.true))
 
 pub read_frame-reading-requires : goal.read_frame-reading-requires
 unfolding unrefused
@@ -66,9 +71,9 @@ returns-in-Checked c =
     ∙ ap (unrefused (numbers_of c.args.table)) (reads (goal.at.returns-in-Checked c).In-Checked)
     ∙ sym (rest (goal.at.returns-in-Checked c).After-read_frame-reading)
 
-pub returns : goal.returns
+pub returns-in_default : goal.returns-in_default
 unfolding unrefused
-returns c =
+returns-in_default c =
     let read = c.read_frame-reading in
-    let t = tag_unchecked read.result.fate c.read_frame-reading.new.assembly (opened c.in_default.in_default-own.keys2) in
-    rw (c.untold-2.ensures, (rest (goal.at.returns c).After-read_frame-reading), ← read.ensures, t.0)
+    let t = other_unchecked read.result.fate c.in_default.not-Checked in
+    rw ((rest (goal.at.returns-in_default c).After-read_frame-reading), ← read.ensures, t)

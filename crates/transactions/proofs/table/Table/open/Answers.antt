@@ -6,7 +6,7 @@ use lib.ListN.{set}
 use Rattle.transactions.specs.Answer.{opened}
 use Rattle.transactions.specs.NumberSet.{digits}
 use Rattle.transactions.specs.Table.{numbers_of, mark_at, waiting, put, done, lowest}
-use Rattle.transactions.proofs.LawsTable.{table, numbers_put, gave_kept, lowest_free, free_gave, resetting_is}
+use Rattle.transactions.proofs.LawsTable.{table, one_free, none_free, numbers_put, gave_kept, lowest_free, free_gave, resetting_is}
 use Rattle.transactions.proofs.LawsCalls.{open_11, open_33, open_31, open_done}
 use Rattle.transactions.proofs.table.Table.open.Goals as goal
 
@@ -24,16 +24,16 @@ pub returns-then-self : goal.returns-then-self
 returns-then-self c =
     c.refused-then-self.ensures ∙ sym (open_33 _ (sym c.keeps_rules.ensures ∙ c.if-not-keeps_rules.false) (resetting_is _ c.if-self.true))
 
-pub returns-then-number-gt-MAX_NUMBER : goal.returns-then-number-gt-MAX_NUMBER
-returns-then-number-gt-MAX_NUMBER c =
-    let low = c.lowest_free-number.ensures in
-    c.refused-then-number-gt-MAX_NUMBER.ensures
-    ∙ sym (open_31 _ (sym c.keeps_rules.ensures ∙ c.if-not-keeps_rules.false) (resetting_is _ c.if-self.false) (rw (← low) c.if-number-gt-MAX_NUMBER.true))
+pub returns-in-None : goal.returns-in-None
+returns-in-None c =
+    c.refused-in-None.ensures
+    ∙ sym (open_31 _ (sym c.keeps_rules.ensures ∙ c.if-not-keeps_rules.false) (resetting_is _ c.if-self.false) (none_free _ c.in-None.ensures))
 
-pub returns : goal.returns
-returns c =
-    let low = c.lowest_free-number.ensures in
-    let t = c.args.self in let n = c.lowest_free-number.result in
-    ap (done opened n) (opens t n c.with.result low c.with.ensures)
-    ∙ ap (λ k. done opened k (put (numbers_of t) k waiting)) low
-    ∙ sym (open_done _ (sym c.keeps_rules.ensures ∙ c.if-not-keeps_rules.false) (resetting_is _ c.if-self.false) (rw (← low) c.if-number-gt-MAX_NUMBER.false))
+pub returns-in-Some : goal.returns-in-Some
+returns-in-Some c =
+    let t = c.args.self in
+    let n = c.in-Some.number in
+    let low = one_free (numbers_of t) n c.in-Some.ensures in
+    ap (done opened n) (opens t n c.with.result low.0 c.with.ensures)
+    ∙ ap (λ k. done opened k (put (numbers_of t) k waiting)) low.0
+    ∙ sym (open_done _ (sym c.keeps_rules.ensures ∙ c.if-not-keeps_rules.false) (resetting_is _ c.if-self.false) (rw (← low.0) low.1))

@@ -12,13 +12,13 @@ returns-then-not-keeps_rules c =
 
 pub reply_to-requires : goal.reply_to-requires
 reply_to-requires c =
-    (reply_below _ _ (sym c.kind_of.ensures ∙ c.in-Reply.is), sym c.keeps_rules.ensures ∙ c.if-not-keeps_rules.false)
+    (reply_below _ _ (sym c.of.ensures ∙ c.in-Reply.is), sym c.keeps_rules.ensures ∙ c.if-not-keeps_rules.false)
 
 pub returns-in-Announcement : goal.returns-in-Announcement
 returns-in-Announcement c =
     rw (
       reply_by _ (sym c.keeps_rules.ensures ∙ c.if-not-keeps_rules.false) _,
-      sym c.kind_of.ensures ∙ c.in-Announcement.is,
+      sym c.of.ensures ∙ c.in-Announcement.is,
     )
     (ap (done announced 0) c.fresh.ensures)
 
@@ -26,7 +26,7 @@ pub returns-in-Reply : goal.returns-in-Reply
 returns-in-Reply c =
     rw (
       reply_by _ (sym c.keeps_rules.ensures ∙ c.if-not-keeps_rules.false) _,
-      sym c.kind_of.ensures ∙ c.in-Reply.is,
+      sym c.of.ensures ∙ c.in-Reply.is,
     )
     c.reply_to.ensures
 
@@ -34,5 +34,5 @@ pub returns-in-Other : goal.returns-in-Other
 returns-in-Other c =
     rw (
       reply_by _ (sym c.keeps_rules.ensures ∙ c.if-not-keeps_rules.false) _,
-      sym c.kind_of.ensures ∙ c.in-Other.is,
+      sym c.of.ensures ∙ c.in-Other.is,
     )
