@@ -22,6 +22,7 @@ pub fn read_full<R: Read>(reader: &mut R, space: &mut [u8]) -> usize
     ensures count { result ≡ length (take result space.new) }
     ensures octets { Consumes (R.remaining reader.old) (R.remaining reader.new) (take result space.new) }
 {
+    // A loop of its own: `read_exact` would not say how many octets came, and would read again where a read was interrupted.
     let mut done = 0;
     while done < space.len() {
         let count = read_some(reader, &mut space[done..]);
@@ -44,14 +45,14 @@ mod tests {
 
     impl Read for Failing<'_> {
         fn read(&mut self, buf: &mut [u8]) -> Result<usize> {
-            if self.0.len() == 0 {
+            let Some((first, rest)) = self.0.split_first() else {
                 return Err(Error::from(ErrorKind::Interrupted));
-            }
-            if buf.len() == 0 {
+            };
+            if buf.is_empty() {
                 return Ok(0);
             }
-            buf[0] = self.0[0];
-            self.0 = &self.0[1..];
+            buf[0] = *first;
+            self.0 = rest;
             Ok(1)
         }
     }
