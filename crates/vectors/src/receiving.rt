@@ -1,11 +1,11 @@
 // Receiving calls on any state and with any room (01, Octets on the wire): the answer, and what is handed back.
+ghost use Rattle.std.specs.Prelude.{◌<◌, IfSome};
+
 use crate::show;
-use crate::text::{
-    MAX_OCTETS, after, before, front, is_number, is_octets, number, octets, piece, pieces, place,
-};
+use crate::show::Case;
+use crate::text::{MAX_OCTETS, after_word, bare, cut, first_word, number, octets};
 use device::{Device, Held, Link, Settings, Text, setup};
 use hdlc::Reader;
-use octets::same_octets;
 use property::slot;
 use serial::{Received, receive};
 use std::io::Stdout;
@@ -20,342 +20,219 @@ struct Given {
     reader: Reader,
     assembly: usize,
     output: usize,
-    // Each change was one.
-    known: bool,
 }
 
-pub fn received(stdout: Stdout, shown: &[u8], text: &[u8]) -> bool {
-    let given = all_changed(before(text, b':'));
-    if pieces(text, b':') == 2 {
-        if is_octets(after(text, b':')) {
-            if given.known {
-                show::text(stdout, shown);
-                call(stdout, given, after(text, b':'));
-                return true;
-            }
+pub fn received(case: Case) -> Option<()> {
+    let mut space = [0u8; MAX_OCTETS];
+    let (changes, input) = cut(case.text, b':')?;
+    let given = changed(changes)?;
+    let input = octets(input, &mut space)?;
+    case.show();
+    call(case.stdout, given, input);
+    Some(())
+}
+
+// The state after changes with a comma between two.
+fn changed(changes: &[u8]) -> Option<Given> {
+    let mut given = Given::unchanged();
+    for change in changes.split(|letter| *letter == b',') {
+        let (field, value) = first_word(bare(change));
+        given = given.with(field, value)?;
+    }
+    Some(given)
+}
+
+impl Given {
+    // The least buffers that 01 takes are written out, so that a limit of the code that moves is noticed.
+    fn unchanged() -> Given {
+        Given {
+            device: setup(2, 0, b"", &[0; Device::ADDRESS_SIZE]).device,
+            reader: Reader::fresh(),
+            assembly: 1302,
+            output: 128,
         }
     }
-    false
-}
 
-// The least buffers that 01 takes are written out, so that a limit of the code that moves is noticed.
-fn unchanged() -> Given {
-    let configured = setup(2, 0, b"", &[0; Device::ADDRESS_SIZE]);
-    let device = configured.device;
-    Given {
-        device,
-        reader: Reader::fresh(),
-        assembly: 1302,
-        output: 128,
-        known: true,
-    }
-}
-
-fn all_changed(changes: &[u8]) -> Given {
-    let mut given = unchanged();
-    let mut k: usize = 0;
-    let all = pieces(changes, b',');
-    while k < all {
-        given = changed(given, piece(changes, b',', k));
-        k += 1;
-    }
-    given
-}
-
-// `link 1 status 127` changes a link, `vendor 7` what is no link's.
-fn changed(given: Given, text: &[u8]) -> Given {
-    let field = before(text, b' ');
-    let value = after(text, b' ');
-    if same_octets(field, b"link") {
-        return with_link(given, before(value, b' '), after(value, b' '));
-    }
-    let mut changed = with_field(given, field, value);
-    if !is_value(field, value) {
-        changed.known = false;
-    }
-    changed
-}
-
-// Whether a value is one that the field has room for: a number, a count and octets, or nothing.
-fn is_value(field: &[u8], value: &[u8]) -> bool {
-    match place(
-        b"escaped discarding power status assembly output text name ports links reader",
-        field,
-    ) {
-        0..=1 => value.len() == 0,
-        2..=3 => is_number(value, 255),
-        4..=5 => is_number(value, MAX_OCTETS),
-        6 => is_counted(value, Device::MAX_TEXT),
-        7..=8 => is_counted(value, Link::MAX_HELD),
-        9..=10 => is_number(value, usize::MAX),
-        _ => is_number(value, 4294967295),
-    }
-}
-
-// Whether a count stands before octets, at most so many.
-fn is_counted(value: &[u8], most: usize) -> bool {
-    let mut out = [0u8; MAX_OCTETS];
-    if is_number(before(value, b' '), usize::MAX) {
-        if is_octets(after(value, b' ')) {
-            return octets(after(value, b' '), &mut out) <= most;
+    // `link 1 status 127` changes a link, `vendor 7` what is no link's.
+    fn with(mut self, field: &[u8], value: &[u8]) -> Option<Given> {
+        match field {
+            b"link" => self.device = with_link(self.device, value)?,
+            b"links" => self.device.settings.links = number(value)?,
+            b"vendor" => self.device.settings.vendor = number(value)?,
+            b"text" => self.device.settings.text = text_of(value)?,
+            b"power" => self.device.power = number(value)?,
+            b"reader" => self.reader.count = number(value)?,
+            b"escaped" => self.reader.escaped = flag(value)?,
+            b"discarding" => self.reader.discarding = flag(value)?,
+            b"assembly" => self.assembly = room(value)?,
+            b"output" => self.output = room(value)?,
+            _ => return None,
         }
+        Some(self)
     }
-    false
 }
 
-fn with_field(given: Given, field: &[u8], value: &[u8]) -> Given {
-    let mut given = given;
-    let mut device = given.device;
-    let mut settings = device.settings;
-    let mut reader = given.reader;
-    let n = number(value);
-    match place(
-        b"links vendor text power reader escaped discarding assembly output",
-        field,
-    ) {
-        0 => settings.links = n,
-        1 => settings.vendor = (n % 4294967296) as u32,
-        2 => {
-            let text = text_of(value);
-            settings.text = text;
-        }
-        3 => device.power = (n % 256) as u8,
-        4 => reader.count = n,
-        5 => reader.escaped = true,
-        6 => reader.discarding = true,
-        7 => given.assembly = n,
-        8 => given.output = n,
-        _ => given.known = false,
-    }
-    device.settings = settings;
-    given.device = device;
-    given.reader = reader;
-    given
+// A word that stands by itself says so.
+fn flag(value: &[u8]) -> Option<bool> {
+    value.is_empty().then_some(true)
 }
 
-fn with_link(given: Given, k: &[u8], text: &[u8]) -> Given {
-    let mut given = given;
-    let mut device = given.device;
-    let n = number(k);
-    let field = before(text, b' ');
-    let value = after(text, b' ');
-    let at = place(
-        b"phy channel transmit pan interface stack mode timeout rloc status name ports",
-        field,
-    );
-    if is_number(k, usize::MAX) {
-        if n < Device::MAX_LINKS {
-            if is_value(field, value) {
-                if at < 12 {
-                    let link = link_with(device.links[n], at, value);
-                    device.links[n] = link;
-                    given.device = device;
-                    return given;
-                }
-            }
-        }
-    }
-    given.known = false;
-    given
+fn room(value: &[u8]) -> Option<usize> {
+    number(value).filter(|n| *n <= MAX_OCTETS)
 }
 
-// The first nine fields are numbers, in the order of their slots.
-fn link_with(link: Link, at: usize, value: &[u8]) -> Link {
-    let mut link = link;
-    let mut numbers = link.numbers;
-    let held = held(value);
-    let n = number(value);
-    match at {
-        9 => link.status = (n % 256) as u8,
-        10 => link.name = held,
-        11 => link.ports = held,
-        _ => {
-            if at < slot::COUNT {
-                numbers[at] = (n % 4294967296) as u32;
-                link.numbers = numbers;
-            }
-        }
-    }
-    link
+fn with_link(device: Device, text: &[u8]) -> Option<Device> {
+    let mut device = device;
+    let (k, change) = first_word(text);
+    let (field, value) = first_word(change);
+    let k: usize = number(k)?;
+    let link = *device.links.get(k)?;
+    device.links[k] = changed_link(link, field, value)?;
+    Some(device)
 }
 
-fn text_of(value: &[u8]) -> Text {
+fn changed_link(mut link: Link, field: &[u8], value: &[u8]) -> Option<Link> {
+    match field {
+        b"status" => link.status = number(value)?,
+        b"name" => link.name = held(value)?,
+        b"ports" => link.ports = held(value)?,
+        _ => link.numbers[slot_of(field)?] = number(value)?,
+    }
+    Some(link)
+}
+
+fn slot_of(field: &[u8]) -> Option<usize>
+    ensures { IfSome result (λ slot. slot < 9) }
+{
+    match field {
+        b"phy" => Some(slot::PHY_ENABLED),
+        b"channel" => Some(slot::CHANNEL),
+        b"transmit" => Some(slot::TRANSMIT_POWER),
+        b"pan" => Some(slot::PAN_ID),
+        b"interface" => Some(slot::INTERFACE_UP),
+        b"stack" => Some(slot::STACK_UP),
+        b"mode" => Some(slot::THREAD_MODE),
+        b"timeout" => Some(slot::CHILD_TIMEOUT),
+        b"rloc" => Some(slot::RLOC16),
+        _ => None,
+    }
+}
+
+// A count, and octets at the front of their place.
+fn text_of(value: &[u8]) -> Option<Text> {
+    let (len, text) = first_word(value);
     let mut padded = [0u8; Device::MAX_TEXT];
-    octets(after(value, b' '), &mut padded);
-    Text {
+    octets(text, &mut padded)?;
+    Some(Text {
         octets: padded,
-        len: number(before(value, b' ')),
-    }
+        len: number(len)?,
+    })
 }
 
-fn held(value: &[u8]) -> Held {
+fn held(value: &[u8]) -> Option<Held> {
+    let (len, text) = first_word(value);
     let mut padded = [0u8; Link::MAX_HELD];
-    octets(after(value, b' '), &mut padded);
-    Held {
+    octets(text, &mut padded)?;
+    Some(Held {
         octets: padded,
-        len: number(before(value, b' ')),
-    }
+        len: number(len)?,
+    })
 }
 
-fn call(stdout: Stdout, given: Given, text: &[u8]) {
-    let mut input = [0u8; MAX_OCTETS];
+fn call(stdout: Stdout, given: Given, input: &[u8]) {
     let mut assembly = [FILLING; MAX_OCTETS];
     let mut output = [FILLING; MAX_OCTETS];
-    let n = octets(text, &mut input);
-    lend(stdout, given, front(&input, n), &mut assembly, &mut output);
-}
-
-// Lends so many octets of each buffer as are given.
-fn lend(stdout: Stdout, given: Given, input: &[u8], assembly: &mut [u8], output: &mut [u8]) {
-    let a = given.assembly;
-    let o = given.output;
-    if a <= assembly.len() {
-        if o <= output.len() {
-            let received = receive(
-                given.device,
-                given.reader,
-                input,
-                &mut assembly[0..a],
-                &mut output[0..o],
-            );
-            tell(stdout, given, received);
-            touched(stdout, b", assembly", assembly);
-            touched(stdout, b", output", output);
-        }
-    }
+    let received = receive(
+        given.device,
+        given.reader,
+        input,
+        &mut assembly[..given.assembly.min(MAX_OCTETS)],
+        &mut output[..given.output.min(MAX_OCTETS)],
+    );
+    tell(stdout, given, received);
+    let _ = print!(stdout; ", assembly");
+    touched(stdout, &assembly);
+    let _ = print!(stdout; ", output");
+    touched(stdout, &output);
 }
 
 fn tell(stdout: Stdout, given: Given, received: Received) {
-    let answer = received.answer;
-    let device = received.device;
-    let reader = received.reader;
-    show::number(stdout, b" = ", answer.number() as usize);
-    show::number(stdout, b", read ", received.read);
-    show::number(stdout, b", wrote ", received.written);
-    if same_device(given.device, device) {
-        show::text(stdout, b", box as given");
-    } else {
-        show::text(stdout, b", box changed");
-    }
-    tell_reader(stdout, given.reader, reader);
+    let _ = print!(stdout;
+        " = {}, read {}, wrote {}",
+        received.answer.number(),
+        received.read,
+        received.written
+    );
+    let _ = print!(stdout;
+        ", box {}",
+        if same_device(given.device, received.device) {
+            "as given"
+        } else {
+            "changed"
+        }
+    );
+    tell_reader(stdout, given.reader, received.reader);
 }
 
 // A reader that is another one is told in the words of a change.
 fn tell_reader(stdout: Stdout, given: Reader, reader: Reader) {
-    if given.count == reader.count {
-        if given.escaped == reader.escaped {
-            if given.discarding == reader.discarding {
-                show::text(stdout, b", reader as given");
-                return;
-            }
-        }
+    if given.count == reader.count
+        && given.escaped == reader.escaped
+        && given.discarding == reader.discarding
+    {
+        let _ = print!(stdout; ", reader as given");
+        return;
     }
-    show::number(stdout, b", reader ", reader.count);
+    let _ = print!(stdout; ", reader {}", reader.count);
     if reader.escaped {
-        show::text(stdout, b", escaped");
+        let _ = print!(stdout; ", escaped");
     }
     if reader.discarding {
-        show::text(stdout, b", discarding");
+        let _ = print!(stdout; ", discarding");
     }
 }
 
 // The octets of a buffer from the first to the last that is not the filling.
-fn touched(stdout: Stdout, word: &[u8], buffer: &[u8]) {
-    let mut start: usize = 0;
-    let mut end: usize = 0;
-    let mut i: usize = 0;
-    while i < buffer.len() {
-        if buffer[i] != FILLING {
-            if end == 0 {
-                start = i;
-            }
-            end = i + 1;
+fn touched(stdout: Stdout, buffer: &[u8]) {
+    match buffer.iter().position(|octet| *octet != FILLING) {
+        None => {
+            let _ = print!(stdout; " untouched");
         }
-        i += 1;
+        Some(start) => {
+            let rest = &buffer[start..];
+            let end = rest
+                .iter()
+                .rposition(|octet| *octet != FILLING)
+                .map_or(0, |last| last + 1);
+            let _ = print!(stdout; " from {start}:");
+            show::octets(stdout, &rest[..end]);
+        }
     }
-    show::text(stdout, word);
-    if end == 0 {
-        show::text(stdout, b" untouched");
-        return;
-    }
-    show::number(stdout, b" from ", start);
-    show::octets(stdout, b":", &buffer[start..end]);
 }
 
 fn same_device(a: Device, b: Device) -> bool {
-    let a_links = a.links;
-    let b_links = b.links;
-    if a.power == b.power {
-        if same_settings(a.settings, b.settings) {
-            return same_links(a_links, b_links);
-        }
-    }
-    false
+    a.power == b.power && same_settings(a.settings, b.settings) && same_links(a.links, b.links)
 }
 
 fn same_settings(a: Settings, b: Settings) -> bool {
-    let a_address = a.address;
-    let b_address = b.address;
-    if same_octets(&a_address, &b_address) {
-        if a.links == b.links {
-            if a.vendor == b.vendor {
-                return same_text(a.text, b.text);
-            }
-        }
-    }
-    false
-}
-
-fn same_text(a: Text, b: Text) -> bool {
-    let a_octets = a.octets;
-    let b_octets = b.octets;
-    if a.len == b.len {
-        return same_octets(&a_octets, &b_octets);
-    }
-    false
+    a.address == b.address
+        && a.links == b.links
+        && a.vendor == b.vendor
+        && a.text.len == b.text.len
+        && a.text.octets == b.text.octets
 }
 
 fn same_links(a: [Link; Device::MAX_LINKS], b: [Link; Device::MAX_LINKS]) -> bool {
-    let mut k: usize = 0;
-    while k < Device::MAX_LINKS {
-        if same_link(a[k], b[k]) {
-            k += 1;
-        } else {
-            return false;
-        }
-    }
-    true
+    a.iter().zip(b.iter()).all(|(a, b)| same_link(*a, *b))
 }
 
 fn same_link(a: Link, b: Link) -> bool {
-    let a_numbers = a.numbers;
-    let b_numbers = b.numbers;
-    if a.status == b.status {
-        if same_numbers(a_numbers, b_numbers) {
-            if same_held(a.name, b.name) {
-                return same_held(a.ports, b.ports);
-            }
-        }
-    }
-    false
-}
-
-fn same_numbers(a: [u32; slot::COUNT], b: [u32; slot::COUNT]) -> bool {
-    let mut i: usize = 0;
-    while i < slot::COUNT {
-        if a[i] != b[i] {
-            return false;
-        }
-        i += 1;
-    }
-    true
+    a.status == b.status
+        && a.numbers == b.numbers
+        && same_held(a.name, b.name)
+        && same_held(a.ports, b.ports)
 }
 
 fn same_held(a: Held, b: Held) -> bool {
-    let a_octets = a.octets;
-    let b_octets = b.octets;
-    if a.len == b.len {
-        return same_octets(&a_octets, &b_octets);
-    }
-    false
+    a.len == b.len && a.octets == b.octets
 }

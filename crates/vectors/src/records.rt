@@ -1,101 +1,63 @@
 // Records of a capture log, read and written at any place (02, T-05).
 use crate::show;
-use crate::text::{
-    MAX_OCTETS, after, before, front, is_number, is_numbered, is_octets, number, octets, piece,
-    pieces,
-};
-use capture::{Found, Record, Written, read_record, write_record};
+use crate::show::Case;
+use crate::text::{MAX_OCTETS, bare, cut, number, octets};
+use capture::{Found, Written, read_record, write_record};
 use std::io::Stdout;
 
-pub fn read(stdout: Stdout, shown: &[u8], text: &[u8]) -> bool {
-    let mut log = [0u8; MAX_OCTETS];
-    if is_numbered(text) {
-        let n = octets(after(text, b':'), &mut log);
-        show::text(stdout, shown);
-        tell_found(
-            stdout,
-            read_record(front(&log, n), number(before(text, b':'))),
-        );
-        return true;
-    }
-    false
+pub fn read(case: Case) -> Option<()> {
+    let mut out = [0u8; MAX_OCTETS];
+    let (at, log) = cut(case.text, b':')?;
+    let at = number(at)?;
+    let log = octets(log, &mut out)?;
+    case.show();
+    tell_found(case.stdout, read_record(log, at));
+    Some(())
 }
 
 fn tell_found(stdout: Stdout, found: Found) {
-    show::number(stdout, b" = ", found.number() as usize);
+    let _ = print!(stdout; " = {} {}", found.number(), name(found));
+    if let Found::At(record) = found {
+        let _ = print!(stdout;
+            ", direction {}, start {}, length {}, next {}",
+            record.direction, record.start, record.len, record.next
+        );
+    }
+}
+
+fn name(found: Found) -> &'static str {
     match found {
-        Found::At(record) => tell_record(stdout, record),
-        Found::NoMore => show::text(stdout, b" no more"),
-        Found::BadMark => show::text(stdout, b" bad mark"),
-        Found::CutOff => show::text(stdout, b" cut off"),
-        Found::OutOfRange => show::text(stdout, b" out of range"),
+        Found::At(_) => "record",
+        Found::NoMore => "no more",
+        Found::BadMark => "bad mark",
+        Found::CutOff => "cut off",
+        Found::OutOfRange => "out of range",
     }
 }
 
-fn tell_record(stdout: Stdout, record: Record) {
-    show::number(stdout, b" record, direction ", record.direction as usize);
-    show::number(stdout, b", start ", record.start);
-    show::number(stdout, b", length ", record.len);
-    show::number(stdout, b", next ", record.next);
-}
-
-pub fn write(stdout: Stdout, shown: &[u8], text: &[u8]) -> bool {
-    let head = before(text, b':');
-    let parts = after(text, b':');
-    if pieces(text, b':') == 2 {
-        if is_place_and_direction(head) {
-            if are_parts(parts) {
-                show::text(stdout, shown);
-                call(stdout, head, parts);
-                return true;
-            }
-        }
-    }
-    false
-}
-
-// Whether a place stands before a direction.
-fn is_place_and_direction(head: &[u8]) -> bool {
-    if is_number(before(head, b' '), usize::MAX) {
-        return is_number(after(head, b' '), 255);
-    }
-    false
-}
-
-// Whether a body stands before a space, with a bar between them. Either may have no octets.
-fn are_parts(parts: &[u8]) -> bool {
-    if pieces(parts, b'|') == 2 {
-        if is_octets(piece(parts, b'|', 0)) {
-            return is_octets(piece(parts, b'|', 1));
-        }
-    }
-    false
-}
-
-fn call(stdout: Stdout, head: &[u8], parts: &[u8]) {
-    let mut body = [0u8; MAX_OCTETS];
+pub fn write(case: Case) -> Option<()> {
+    let mut out = [0u8; MAX_OCTETS];
     let mut space = [0u8; MAX_OCTETS];
-    let b = octets(piece(parts, b'|', 0), &mut body);
-    let s = octets(piece(parts, b'|', 1), &mut space);
-    lend(stdout, head, front(&body, b), &mut space, s);
-}
-
-// Lends the first `n` octets of a space, and shows what they are then.
-fn lend(stdout: Stdout, head: &[u8], body: &[u8], space: &mut [u8], n: usize) {
-    let at = number(before(head, b' '));
-    let direction = (number(after(head, b' ')) % 256) as u8;
-    if n <= space.len() {
-        tell_written(stdout, write_record(&mut space[0..n], at, direction, body));
-        show::octets(stdout, b":", front(space, n));
-    }
+    let (head, parts) = cut(case.text, b':')?;
+    let (at, direction) = cut(head, b' ')?;
+    let at = number(at)?;
+    let direction = number(direction)?;
+    let (body, held) = cut(parts, b'|')?;
+    let body = octets(bare(body), &mut out)?;
+    let count = octets(bare(held), &mut space)?.len();
+    let lent = space.get_mut(..count)?;
+    case.show();
+    tell_written(case.stdout, write_record(lent, at, direction, body));
+    let _ = print!(case.stdout; ":");
+    show::octets(case.stdout, lent);
+    Some(())
 }
 
 fn tell_written(stdout: Stdout, written: Written) {
-    show::number(stdout, b" = ", written.number() as usize);
-    match written {
-        Written::Next(_) => show::text(stdout, b" written"),
-        Written::OutOfRange => show::text(stdout, b" out of range"),
-        Written::NoRoom => show::text(stdout, b" no room"),
-    }
-    show::number(stdout, b", next ", written.next());
+    let word = match written {
+        Written::Next(_) => "written",
+        Written::OutOfRange => "out of range",
+        Written::NoRoom => "no room",
+    };
+    let _ = print!(stdout; " = {} {word}, next {}", written.number(), written.next());
 }

@@ -1,141 +1,102 @@
 // Payloads read under type strings (01, Type strings).
-use crate::text::{
-    MAX_OCTETS, after, before, front, is_number, is_octets, lead, number, octets, piece, pieces,
-};
+use crate::show::Case;
+use crate::text::{MAX_OCTETS, bare, cut, number, octets};
 use crate::{integers, show};
 use datatype::{Answer, Payload, read_typed};
-use octets::same_octets;
 use std::io::Stdout;
 
 // The longest list that is lent: one that is always long enough.
 const MAX_LIST: usize = Payload::MAX_NUMBERS;
 
-pub fn typed(stdout: Stdout, shown: &[u8], text: &[u8]) -> bool {
-    let mut payload = [0u8; MAX_OCTETS];
-    let list = piece(text, b',', 2);
-    if is_typed(text, list) {
-        let n = octets(piece(text, b',', 1), &mut payload);
-        show::pair(stdout, shown, b": ");
-        read(stdout, before(text, b','), front(&payload, n), list);
-        return true;
-    }
-    false
+// What is told of a list, and how many numbers of it are lent.
+#[derive(Clone, Copy)]
+enum List {
+    // Each leaf of one that is always long enough.
+    All,
+    // `first 6 of 8 sevens`.
+    First(usize),
+    // `last of 192`.
+    Last(usize),
 }
 
-fn is_typed(text: &[u8], list: &[u8]) -> bool {
-    if is_octets(piece(text, b',', 1)) {
-        return match pieces(text, b',') {
-            2 => true,
-            3 => is_list(list),
-            _ => false,
-        };
-    }
-    false
+pub fn typed(case: Case) -> Option<()> {
+    let mut out = [0u8; MAX_OCTETS];
+    let (types, rest) = cut(case.text, b',')?;
+    let (payload, list) = match cut(rest, b',') {
+        Some((payload, list)) => (payload, list_of(bare(list))?),
+        None => (rest, List::All),
+    };
+    let payload = octets(bare(payload), &mut out)?;
+    case.show();
+    let _ = print!(case.stdout; ": ");
+    read(case.stdout, types, payload, list);
+    Some(())
 }
 
-// `first 6 of 8 sevens`, or `last of 192`.
-fn is_list(words: &[u8]) -> bool {
-    let rest = after(words, b' ');
-    if same_octets(before(words, b' '), b"first") {
-        if same_octets(after(rest, b' '), b"of 8 sevens") {
-            return is_number(before(rest, b' '), 8);
-        }
+fn list_of(words: &[u8]) -> Option<List> {
+    if let Some(rest) = words.strip_prefix(b"last of ") {
+        return number(rest).filter(|n| *n <= MAX_LIST).map(List::Last);
     }
-    if same_octets(front(words, 8), b"last of ") {
-        return is_number(after(rest, b' '), MAX_LIST);
-    }
-    false
+    let lent = words
+        .strip_prefix(b"first ")?
+        .strip_suffix(b" of 8 sevens")?;
+    number(lent).filter(|n| *n <= 8).map(List::First)
 }
 
 // A reading into the first numbers of a list of sevens, and what the list is then.
-fn read(stdout: Stdout, types: &[u8], payload: &[u8], words: &[u8]) {
+fn read(stdout: Stdout, types: &[u8], payload: &[u8], told: List) {
     let mut list = [7u32; MAX_LIST];
-    let count = answered(stdout, within(types, payload, &mut list, room(words)));
-    match lead(words) {
-        b'f' => numbers(stdout, b", now", &list[0..8]),
-        b'l' => last(stdout, count, &list),
-        _ => leaves(stdout, count, &list),
+    let lent = match told {
+        List::All => MAX_LIST,
+        List::First(n) | List::Last(n) => n.min(MAX_LIST),
+    };
+    let count = answered(stdout, read_typed(types, payload, &mut list[..lent]));
+    let (leaves, _) = list.as_chunks::<3>();
+    let leaves = leaves.iter().take(count);
+    match told {
+        List::All => {
+            for (k, leaf) in leaves.enumerate() {
+                tell_leaf(stdout, if k == 0 { b": " } else { b", " }, *leaf);
+            }
+        }
+        List::First(_) => {
+            let _ = print!(stdout; ", now");
+            numbers(stdout, &list[..8]);
+        }
+        List::Last(_) => {
+            if let Some(leaf) = leaves.last() {
+                tell_leaf(stdout, b", last ", *leaf);
+            }
+        }
     }
-}
-
-// How many numbers of the list are lent.
-fn room(words: &[u8]) -> usize {
-    match lead(words) {
-        b'f' => number(piece(words, b' ', 1)),
-        b'l' => number(piece(words, b' ', 2)),
-        _ => MAX_LIST,
-    }
-}
-
-fn within(types: &[u8], payload: &[u8], list: &mut [u32], room: usize) -> Answer {
-    if list.len() < room {
-        return Answer::ShortList;
-    }
-    read_typed(types, payload, &mut list[0..room])
 }
 
 // Tells the answer's number and its cause, and returns how many leaves there are.
 fn answered(stdout: Stdout, answer: Answer) -> usize {
-    show::number(stdout, b"", answer.number() as usize);
+    let _ = print!(stdout; "{}", answer.number());
     match answer {
         Answer::Leaves(count) => {
-            show::number(stdout, b" with ", count);
+            let _ = print!(stdout; " with {count}");
             count
         }
-        Answer::Misfit(cause) => {
-            integers::tell(stdout, cause);
+        _ => {
+            let _ = print!(stdout; "{}", integers::cause(answer.cause()));
             0
         }
-        _ => 0,
-    }
-}
-
-fn leaves(stdout: Stdout, count: usize, list: &[u32]) {
-    let mut k: usize = 0;
-    while k < count {
-        if k == 0 {
-            leaf(stdout, b": ", k, list);
-        } else {
-            leaf(stdout, b", ", k, list);
-        }
-        k += 1;
-    }
-}
-
-fn last(stdout: Stdout, count: usize, list: &[u32]) {
-    if 0 < count {
-        leaf(stdout, b", last ", count - 1, list);
     }
 }
 
 // A leaf after a word: its letter, its start and its length.
-fn leaf(stdout: Stdout, word: &[u8], k: usize, list: &[u32]) {
-    if k < MAX_LIST {
-        show::text(stdout, word);
-        three(stdout, part(list, 3 * k));
-    }
-}
-
-fn part(list: &[u32], at: usize) -> &[u32] {
-    if list.len() < at {
-        return list;
-    }
-    &list[at..]
-}
-
-fn three(stdout: Stdout, list: &[u32]) {
-    if 3 <= list.len() {
-        let letter = [(list[0] % 256) as u8];
-        numbers(stdout, &letter, &list[1..3]);
-    }
-}
-
-// A word, and each number after a space.
-fn numbers(stdout: Stdout, word: &[u8], list: &[u32]) {
-    let mut i = 0;
+fn tell_leaf(stdout: Stdout, word: &[u8], leaf: [u32; 3]) {
+    let [letter, start, size] = leaf;
     show::text(stdout, word);
-    while i < list.len() {
-        show::number(stdout, b" ", list[i] as usize);
-        i += 1;
+    show::text(stdout, &[(letter % 256) as u8]);
+    numbers(stdout, &[start, size]);
+}
+
+// Each number after a space.
+fn numbers(stdout: Stdout, list: &[u32]) {
+    for n in list {
+        let _ = print!(stdout; " {n}");
     }
 }

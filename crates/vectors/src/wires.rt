@@ -1,32 +1,27 @@
 // Octets of the wire, read in one or several calls; what a call leaves unread is offered again. Fates are 01's (Octets on the wire).
-use crate::show;
-use crate::text::{MAX_OCTETS, are_calls, front, octets, piece, pieces};
+use crate::show::Case;
+use crate::text::{MAX_OCTETS, are_calls, bare};
+use crate::{show, text};
 use hdlc::{Fate, Reader, Reading, read_frame};
 use std::io::Stdout;
 
 type Assembly = [u8; Reader::MAX_GATHERED];
 
-pub fn wire(stdout: Stdout, shown: &[u8], text: &[u8], first_told: bool) -> bool {
-    if are_calls(text) {
-        show::pair(stdout, shown, b":");
-        run(stdout, text, first_told);
-        return true;
-    }
-    false
-}
-
 // The calls, of which the first may go untold.
-fn run(stdout: Stdout, text: &[u8], first_told: bool) {
+pub fn wire(case: Case, first_told: bool) -> Option<()> {
+    if !are_calls(case.text) {
+        return None;
+    }
+    case.show();
+    let _ = print!(case.stdout; ":");
     let mut assembly = [0u8; Reader::MAX_GATHERED];
     let mut reader = Reader::fresh();
     let mut told = first_told;
-    let mut k: usize = 0;
-    let all = pieces(text, b'|');
-    while k < all {
-        reader = call(stdout, reader, piece(text, b'|', k), &mut assembly, told);
+    for text in case.text.split(|letter| *letter == b'|') {
+        reader = call(case.stdout, reader, bare(text), &mut assembly, told);
         told = true;
-        k += 1;
     }
+    Some(())
 }
 
 fn call(
@@ -37,8 +32,10 @@ fn call(
     told: bool,
 ) -> Reader {
     let mut chunk = [0u8; MAX_OCTETS];
-    let n = octets(text, &mut chunk);
-    feed(stdout, reader, front(&chunk, n), assembly, told)
+    match text::call(text, &mut chunk) {
+        Some(octets) => feed(stdout, reader, octets, assembly, told),
+        None => reader,
+    }
 }
 
 // Offers a chunk until it is used up.
@@ -50,21 +47,16 @@ fn feed(
     told: bool,
 ) -> Reader {
     let mut reader = reader;
-    let mut at: usize = 0;
-    while at < chunk.len() {
-        let r = offer(reader, &chunk[at..], assembly);
-        let read = r.read;
-        let fate = r.fate;
-        reader = r.reader;
-        if read == 0 {
+    let mut rest = chunk;
+    while !rest.is_empty() {
+        let reading = offer(reader, rest, assembly);
+        reader = reading.reader;
+        if reading.read == 0 || rest.len() < reading.read {
             return reader;
         }
-        if chunk.len() - at < read {
-            return reader;
-        }
-        at += read;
+        rest = &rest[reading.read..];
         if told {
-            tell(stdout, fate, read, assembly);
+            tell(stdout, reading.fate, reading.read, assembly);
         }
     }
     reader
@@ -83,13 +75,15 @@ fn offer(reader: Reader, chunk: &[u8], assembly: &mut Assembly) -> Reading {
 }
 
 fn tell(stdout: Stdout, fate: Fate, read: usize, assembly: &Assembly) {
-    show::number(stdout, b" fate ", fate.number() as usize);
-    show::number(stdout, b" read ", read);
-    if let Fate::Checked(n) = fate {
-        if 16 < n {
-            show::number(stdout, b" body of ", n);
-        } else {
-            show::octets(stdout, b" body", front(assembly, n));
+    let _ = print!(stdout; " fate {} read {read}", fate.number());
+    match fate {
+        Fate::Checked(n) if 16 < n => {
+            let _ = print!(stdout; " body of {n}");
         }
+        Fate::Checked(n) => {
+            let _ = print!(stdout; " body");
+            show::octets(stdout, &assembly[..n]);
+        }
+        _ => {}
     }
 }

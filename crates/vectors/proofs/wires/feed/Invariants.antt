@@ -1,12 +1,12 @@
--- The invariant: the place is within the chunk.
-use Prim.Native.Nat.{◌≤◌, ◌-◌}
+-- The measure is how much of the chunk is left.
+use Prim.Native.Nat.{◌≤◌}
 use lib.ListN.{length}
 use Rattle.vectors.proofs.wires.feed.Given as goal
 
-abbrev pub invariant-loop-at : goal.invariant-loop-at
-invariant-loop-at l =
-    l.at ≤ length l.chunk
+abbrev pub invariant-loop-rest : goal.invariant-loop-rest
+invariant-loop-rest l =
+    length l.rest ≤ length l.chunk
 
-abbrev pub decreases-loop-at : goal.decreases-loop-at
-decreases-loop-at l =
-    length l.chunk - l.at
+abbrev pub decreases-loop-rest : goal.decreases-loop-rest
+decreases-loop-rest l =
+    length l.rest
