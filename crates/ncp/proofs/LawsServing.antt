@@ -1,16 +1,17 @@
 -- Laws of the program's calls on a chunk, and of its chunks, one after the other.
-use mathlib.Core.Bool.{false}
+use mathlib.Core.Logic.{inl, inr}
 use mathlib.Core.Path.{◌≡◌, refl, sym, ap, ◌∙◌}
 use mathlib.Core.List.{List, [], ◌∷◌, ◌++◌, foldl, foldl-append}
 use Prim.Native.Nat.{ℕ, zero, suc, ◌+◌, ◌-◌, ◌≤◌, ◌<◌}
 use native.Mathlib.Omega.{arith}
 use borrow.Author.Tests.{eq-eqb, ne_eqb}
 use lib.ListN.{length, take, drop, replicate, length-append, length-drop}
+use Rattle.std.specs.Prelude.{Ok}
 use Rattle.octets.proofs.LawsLists.{take_rest}
 use Rattle.device.specs.State.{max_reply}
 use Rattle.serial.proofs.GoesOn.{reads_within, reads_on, keeps_on}
-use Rattle.ncp.specs.declared.serve.Session.{Session}
-use Rattle.ncp.specs.Serve.{State, state_of, KeepsState, gives, next, feeds, fed, chunk_leaves, chunks_leave, Served}
+use Rattle.ncp.specs.declared.turn.Session.{Session}
+use Rattle.ncp.specs.Serve.{State, state_of, KeepsState, gives, next, feeds, fed, chunk_leaves, chunks_leave, Served, Ended}
 
 -- ---- a call
 
@@ -78,17 +79,28 @@ left_end s xs t rest none l = go l.calls l.same
 
 -- ---- chunks
 
-pub served_none : (s : State) (t : Session) (a : List ℕ) → state_of t a ≡ s → Served s t a 0
+pub served_none : (s : State) (t : Session) (a : List ℕ) → state_of t a ≡ s → Served s (Ok t) a 0
 unfolding chunks_leave
-served_none s t a e = record { chunks = []; count = refl; left = λ _. e }
+served_none s t a e = record { chunks = []; count = refl; left = e }
 
 -- a chunk more, for a session that goes on
-pub served_next : (s : State) (t u : Session) (a b xs : List ℕ) (n : ℕ) → t.stopped ≡ false → Served s t a n
-    → (u.stopped ≡ false → state_of u b ≡ chunk_leaves (state_of t a) xs) → Served s u b (n + 1)
+unfoldable pub served_next : (s : State) (t u : Session) (a b xs : List ℕ) (n : ℕ) → Served s (Ok t) a n
+    → state_of u b ≡ chunk_leaves (state_of t a) xs → Served s (Ok u) b (n + 1)
 unfolding chunks_leave
-served_next s t u a b xs n on v left =
+served_next s t u a b xs n v left =
     record {
       chunks = v.chunks ++ (xs ∷ []);
       count = length-append v.chunks (xs ∷ []) ∙ ap (λ k. k + 1) v.count;
-      left = λ e. left e ∙ ap (λ z. chunk_leaves z xs) (v.left on) ∙ sym (foldl-append chunk_leaves s v.chunks (xs ∷ []));
+      left = left ∙ ap (λ z. chunk_leaves z xs) v.left ∙ sym (foldl-append chunk_leaves s v.chunks (xs ∷ []));
+    }
+
+-- a chunk more, with no octets: the program ends
+pub ended_next : (s : State) (t u : Session) (a b xs : List ℕ) (n : ℕ) → Served s (Ok t) a n
+    → state_of u b ≡ chunk_leaves (state_of t a) xs → xs ≡ [] → Ended s (Ok u) b
+unfolding served_next
+ended_next s t u a b xs n v left none =
+    record {
+      reads = n + 1;
+      served = served_next s t u a b xs n v left;
+      why = inr (inl (record { before = v.chunks; last = ap (λ x. v.chunks ++ (x ∷ [])) none }));
     }

@@ -18,6 +18,7 @@ use Rattle.engine.specs.Engine.{engine}
 use Rattle.engine.proofs.ReplyBounds.{reply_bounds}
 use Rattle.serial.specs.Receiving.{Result, breaks_rules, unrefused, receive_body}
 use Rattle.serial.proofs.LawsReceiving.{rules_kept}
+use Rattle.ncp.specs.declared.turn.Session.{Session}
 use Rattle.ncp.specs.declared.turn.Turn.{Turn}
 use Rattle.ncp.specs.Turn.{received, reply_body, Took, max_line}
 
@@ -51,7 +52,7 @@ module _ (d : Device) (r : Reader) (input a space : List ℕ) where
       (λ kept. chosen (Turned d) (ltb (length a) max_gathered) (λ _. silent d _ refl refl) (λ _. reads_turned kept))
 
 -- a turn's line fits where there is room for three octets for each of a reply's 61
-pub took_room : (d : Device) (r : Reader) (input a : List ℕ) {a' before after : List ℕ} {t : Turn} → Took d (received d r input a) t a' before after
+pub took_room : (d : Device) (r : Reader) (input a : List ℕ) {a' before after : List ℕ} {t : Turn} {s : Session} → Took d (received d r input a) t s a' before after
     → max_line ≤ length before → t.len ≤ length after
 took_room d r input a {before = before} w h =
     let body = reply_body d (received d r input a) in

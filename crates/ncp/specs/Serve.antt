@@ -1,5 +1,6 @@
 -- The program's calls one after the other, and their lines.
-use Rattle.std.specs.Prelude.{true, false, cond, ◌⊎◌, ◌≡◌, ℕ, zero, suc, eqb, length, drop}
+use Rattle.std.specs.Prelude.{cond, ◌⊎◌, ◌≡◌, ◌++◌, ℕ, zero, suc, eqb, length, drop, Result as Tried, IfOk, IsErr}
+use Rattle.std.specs.declared.io.Error.{Error}
 use mathlib.Core.List.{List, [], ◌∷◌, foldl}
 use Rattle.octets.specs.Runs.{emitted}
 use Rattle.lines.specs.Line.{line_of}
@@ -7,8 +8,7 @@ use Rattle.hdlc.specs.declared.reader.Reader.{Reader}
 use Rattle.hdlc.specs.Reader.{fresh}
 use Rattle.device.specs.declared.state.Device.{Device}
 use Rattle.serial.specs.Receiving.{Result, Keeps}
-use Rattle.ncp.specs.declared.serve.Session.{Session}
-use Rattle.ncp.specs.declared.serve.Progress.{Progress}
+use Rattle.ncp.specs.declared.turn.Session.{Session}
 use Rattle.ncp.specs.Turn.{received, reply_body}
 
 -- what stands between two calls
@@ -70,13 +70,18 @@ max_reads = 18446744073709551615
 
 -- unless a line could not be written, the session stands where some chunks leave it, one a read. Which chunks came is the operating system's
 -- part
-pub record Served (s : State) (t : Session) (a : List ℕ) (reads : ℕ) : Type 0 where
+pub record Served (s : State) (t : Tried Session Error) (a : List ℕ) (reads : ℕ) : Type 0 where
   pub chunks : List (List ℕ)
   pub count : length chunks ≡ reads
-  pub left : t.stopped ≡ false → state_of t a ≡ chunks_leave s chunks
+  pub left : IfOk t (λ u. state_of u a ≡ chunks_leave s chunks)
+
+-- the last of some chunks has no octets
+pub record LastEmpty (xss : List (List ℕ)) : Type 0 where
+  pub before : List (List ℕ)
+  pub last : xss ≡ before ++ ([] ∷ [])
 
 -- the program ends when a line could not be written, when a read gave nothing, or after all its reads
-pub record Ended (s : State) (p : Progress) (a : List ℕ) : Type 0 where
+pub record Ended (s : State) (t : Tried Session Error) (a : List ℕ) : Type 0 where
   pub reads : ℕ
-  pub served : Served s p.session a reads
-  pub why : (p.session.stopped ≡ true) ⊎ ((p.read ≡ 0) ⊎ (reads ≡ max_reads))
+  pub served : Served s t a reads
+  pub why : IsErr t ⊎ (LastEmpty served.chunks ⊎ (reads ≡ max_reads))

@@ -7,6 +7,7 @@ use Rattle.device.specs.State.{max_reply}
 use Rattle.device.specs.declared.state.Device.{Device}
 use Rattle.engine.specs.Engine.{engine}
 use Rattle.serial.specs.Receiving.{Result, receive_body}
+use Rattle.ncp.specs.declared.turn.Session.{Session}
 use Rattle.ncp.specs.declared.turn.Turn.{Turn}
 
 -- the longest line: three letters for each octet of a reply
@@ -22,9 +23,9 @@ unfoldable pub reply_body : Device → Result → List ℕ
 reply_body d r = cond (eqb r.number 1) (engine d r.request).reply []
 
 -- a turn gives what the receiving call gives, and the line of the reply stands first in the space lent for it
-pub record Took (d : Device) (r : Result) (t : Turn) (a before after : List ℕ) : Type 0 where
+pub record Took (d : Device) (r : Result) (t : Turn) (s : Session) (a before after : List ℕ) : Type 0 where
   pub read : t.read ≡ r.read
-  pub device : t.device ≡ r.device
-  pub reader : t.reader ≡ r.reader
+  pub device : s.device ≡ r.device
+  pub reader : s.reader ≡ r.reader
   pub assembly : a ≡ r.assembly
   pub line : Wrote before after 0 t.len (line_of (reply_body d r))

@@ -10,5 +10,6 @@ use hdlc::Reader;
 
 fn main(rt: HostRuntime) {
     let mut assembly = [0u8; Reader::MAX_GATHERED];
-    serve(two_links(), rt.stdin(), rt.stdout(), &mut assembly);
+    // Where a line cannot be written, the program ends and says nothing.
+    let _ = serve(two_links(), rt.stdin(), rt.stdout(), &mut assembly);
 }

@@ -1,16 +1,15 @@
 -- What was written is the engine's reply, whose line fits.
 use mathlib.Core.Path.{refl, sym}
-use native.Mathlib.Omega.{arith}
 use lib.Seq.{length-take-le}
 use Rattle.serial.specs.Receiving.{result_of}
 use Rattle.ncp.proofs.LawsTurns.{Turned, turned}
-use Rattle.ncp.proofs.turn.receive_line.Goals as goal
-use Rattle.ncp.proofs.turn.receive_line.Goals.{After-receive_body-received}
+use Rattle.ncp.proofs.turn.Session.receive_line.Goals as goal
+use Rattle.ncp.proofs.turn.Session.receive_line.Goals.{After-receive_body-received}
 
-facts : (c : After-receive_body-received) → Turned c.args.device (result_of c.receive_body-received.result c.receive_body-received.new.assembly c.receive_body-received.new.space)
+facts : (c : After-receive_body-received) → Turned c.args.self.now.device (result_of c.receive_body-received.result c.receive_body-received.new.assembly c.receive_body-received.new.space)
 facts c =
     let s = c.args in
-    rw c.receive_body-received.ensures (turned s.device s.reader s.input.now s.assembly.now _)
+    rw c.receive_body-received.ensures (turned s.self.now.device s.self.now.reader s.input.now s.assembly.now _)
 
 pub slice_bounds-reply-end : goal.slice_bounds-reply-end
 slice_bounds-reply-end c =
@@ -19,10 +18,6 @@ slice_bounds-reply-end c =
 pub slice_bounds-write_line-end : goal.slice_bounds-write_line-end
 slice_bounds-write_line-end c =
     sym (length-take-le _ _ (facts (goal.at.slice_bounds-write_line-end c).After-receive_body-received).room)
-
-pub write_line-requires : goal.write_line-requires
-write_line-requires c =
-    let f = (facts (goal.at.write_line-requires c).After-receive_body-received) in rw f.reply (omega (arith, f.short))
 
 pub returns : goal.returns
 returns c =
