@@ -4,6 +4,7 @@ use mathlib.Core.List.{List, [], ◌∷◌, ◌++◌, foldl-append}
 use Prim.Native.Nat.{ℕ, zero, suc, ◌+◌, ◌≤◌}
 use native.Mathlib.Omega.{arith}
 use lib.ListN.{length, drop, length-drop}
+use Rattle.std.proofs.Common.{rules}
 use Rattle.capture.specs.Records.{Entry, Good, Located}
 use Rattle.capture.specs.Reading.{Report, one, no_record, length_in, read_front}
 use Rattle.capture.specs.Logs.{AllGood, none, more, entry_of, Entries, ended, with_entry, entries_by, entries_within, entries_in, unwritten, write_next, write_all}
@@ -14,12 +15,12 @@ by_same : {log : List ℕ} {q : Report} (f g : ℕ → Entries) → FrontCase lo
     → entries_by log q.found q.number f ≡ entries_by log q.found q.number g
 unfolding entries_by
 by_same f g (nothing n) same = refl
-by_same {log} f g (found h m r l) same = ap (with_entry (entry_of log _)) (same (5 + length_in log) (omega arith) l)
+by_same {log} f g (found at) same = ap (with_entry (entry_of log _)) (same (5 + length_in log) (omega arith) at.inside)
 
 none_within : (n : ℕ) (log : List ℕ) → length log ≡ 0 → entries_within n log ≡ ended 0
 unfolding entries_within entries_by
 none_within zero log e = refl
-none_within (suc n) log e = rw (front_end log e)
+none_within (suc n) log e = search (rules, front_end log e)
 
 enough : (n m : ℕ) (log : List ℕ) → length log ≤ n → length log ≤ m → entries_within n log ≡ entries_within m log
 unfolding entries_within
@@ -39,11 +40,11 @@ entries_step log =
 module _ (log : List ℕ) where
   pub entries_end : {n : ℕ} → read_front log ≡ no_record n → entries_in log ≡ ended n
   unfolding entries_by
-  entries_end e = entries_step log ∙ rw e
+  entries_end e = search (rules, entries_step log, e)
 
   pub entries_next : {r : Located} → read_front log ≡ one r → entries_in log ≡ with_entry (entry_of log r) (entries_in (drop r.next log))
   unfolding entries_by
-  entries_next e = entries_step log ∙ rw e
+  entries_next e = search (rules, entries_step log, e)
 
 -- ---- one record more
 

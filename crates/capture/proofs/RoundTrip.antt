@@ -1,20 +1,21 @@
 -- PROMISE: "Any list of good records written is read back the same."
-use mathlib.Core.Path.{◌≡◌, refl, sym, ap, ap₂, ◌∙◌}
+use mathlib.Core.Path.{◌≡◌, refl}
 use mathlib.Core.List.{List, [], ◌∷◌, ◌++◌, append_assoc, append-nil, foldl}
 use Prim.Native.Nat.{ℕ, ◌+◌, ◌≤◌}
 use native.Mathlib.Omega.{arith}
 use lib.ListN.{length, take, drop, length-append}
 use lib.Seq.{sets, length-sets, drop-drop, drop_at, take-append_seam, drop-append_seam}
+use Rattle.std.proofs.Common.{rules}
 use Rattle.octets.specs.Runs.{each}
 use Rattle.octets.specs.LittleEndian.{le_octets}
 use Rattle.octets.proofs.LawsLittleEndian.{length_le}
 use Rattle.octets.proofs.LawsWriting.{sets_append, sets_front}
 use Rattle.capture.specs.Records.{Entry, record_of, Good, Located}
-use Rattle.capture.specs.Reading.{one, length_in, read_front, placed, read_at}
+use Rattle.capture.specs.Reading.{one, read_front, read_at}
 use Rattle.capture.specs.Writing.{Report, put}
-use Rattle.capture.specs.Logs.{log_of, AllGood, none, more, entry_of, with_entry, entries_in, unwritten, write_next, numbers_from, write_all}
+use Rattle.capture.specs.Logs.{log_of, AllGood, none, more, entry_of, entries_in, unwritten, write_next, numbers_from, write_all}
 use Rattle.capture.proofs.LawsRecords.{record_length, good_range, length_back}
-use Rattle.capture.proofs.LawsReading.{front_whole, front_end, read_from_lem}
+use Rattle.capture.proofs.LawsReading.{front_end, read_from_lem}
 use Rattle.capture.proofs.Answers.{write_fits}
 use Rattle.capture.proofs.LawsLogs.{entries_end, entries_next}
 
@@ -26,21 +27,11 @@ parts e = record { direction = e.direction; start = 5; len = length e.body; next
 
 module _ (e : Entry) (rest : List ℕ) (g : Good e) where
   front_back : read_front (record_of e ++ rest) ≡ one (parts e)
-  front_back =
-      let xs : List ℕ = record_of e ++ rest in
-      let n : length_in xs ≡ length e.body = length_back e rest g in
-      let size : length xs ≡ 5 + length e.body + length rest = length-append (record_of e) rest ∙ ap (λ k. k + length rest) (record_length e) in
-      front_whole xs (omega arith) refl (rw n (good_range g)) (omega arith)
-      ∙ ap (λ k. one (record { direction = e.direction; start = 5; len = k; next = 5 + k })) n
+  front_back = search (rules, length_back e rest g, good_range g, record_length e, length-append (record_of e) rest)
 
   held_back : entry_of (record_of e ++ rest) (parts e) ≡ e
   unfolding entry_of
-  held_back =
-      let n : ℕ = length e.body in
-      ap (λ b. record { direction = e.direction; body = b })
-      (ap (λ xs. take n (drop 2 xs)) (append_assoc (le_octets 2 n) e.body rest)
-      ∙ ap (take n) (drop_at (le_octets 2 n) (e.body ++ rest) 2 (length_le 2 n))
-      ∙ take-append_seam e.body rest)
+  held_back = search (rules, append_assoc (le_octets 2 (length e.body)) e.body rest, drop_at (le_octets 2 (length e.body)) (e.body ++ rest) 2 (length_le 2 (length e.body)), take-append_seam e.body rest)
 
   rest_back : drop (5 + length e.body) (record_of e ++ rest) ≡ rest
   rest_back = drop_at (record_of e) rest _ (record_length e)
@@ -55,17 +46,11 @@ module _ (before after : List ℕ) (e : Entry) (g : Good e) where
   place = length before
 
   pub record_back : read_at (before ++ (record_of e ++ after)) place ≡ one (standing place e)
-  record_back =
-      read_from_lem (before ++ (record_of e ++ after)) place (omega (arith, length-append before (record_of e ++ after)))
-      ∙ ap (λ xs. placed place (read_front xs)) (drop-append_seam before (record_of e ++ after))
-      ∙ ap (placed place) (front_back e after g)
+  record_back = search (rules, read_from_lem (before ++ (record_of e ++ after)) place (search (rules, length-append before (record_of e ++ after))), drop-append_seam before (record_of e ++ after), front_back e after g)
 
   pub entry_back : entry_of (before ++ (record_of e ++ after)) (standing place e) ≡ e
   unfolding entry_of
-  entry_back =
-      ap (λ xs. record { direction = e.direction; body = take (length e.body) xs })
-      (sym (drop-drop 5 place (before ++ (record_of e ++ after))) ∙ ap (drop 5) (drop-append_seam before (record_of e ++ after)))
-      ∙ held_back e after g
+  entry_back = search (rules, drop-drop 5 place (before ++ (record_of e ++ after)), drop-append_seam before (record_of e ++ after), held_back e after g)
 
 -- ---- a log
 
@@ -76,22 +61,15 @@ unfolding log_of
 log_then rest none = refl
 log_then rest (more {e} {es} g gs) =
     let xs : List ℕ = log_of es ++ rest in
-    ap entries_in (append_assoc (record_of e) (log_of es) rest)
-    ∙ entries_next (record_of e ++ xs) (front_back e xs g)
-    ∙ ap₂ with_entry (held_back e xs g) (ap entries_in (rest_back e xs g) ∙ log_then rest gs)
+    search (rules, append_assoc (record_of e) (log_of es) rest, entries_next (record_of e ++ xs) (front_back e xs g), held_back e xs g, rest_back e xs g, log_then rest gs)
 
 pub log_back : {es : List Entry} → AllGood es → entries_in (log_of es) ≡ record { entries = es; fault = 0 }
-log_back {es} g =
-    let end : entries_in [] ≡ record { entries = []; fault = 0 } = entries_end [] (front_end [] refl) in
-    rw (append-nil (log_of es), end, append-nil es) at (log_then [] g)
+log_back {es} g = search (rules, append-nil (log_of es), append-nil es, entries_end [] (front_end [] refl), log_then [] g)
 
 -- so no two entries have one record
 pub record_same : {e f : Entry} → Good e → Good f → record_of e ≡ record_of f → e ≡ f
 unfolding log_of
-record_same {e} {f} g h s =
-    let same : e ∷ [] ≡ f ∷ [] =
-    ap (λ q. q.entries) (sym (log_back (more g none)) ∙ ap (λ xs. entries_in (xs ++ [])) s ∙ log_back (more h none)) in
-    cc same
+record_same {e} {f} g h s = search (rules, s, log_back (more g none), log_back (more h none))
 
 -- ---- a log that is written record by record
 
@@ -109,11 +87,11 @@ wrote_all w (more {e} {es} g gs) room =
     let v : Report = put w.space w.next (record_of e) in
     let first : write_next w e ≡ v =
     write_fits w.space w.next e.direction e.body (good_range g) (omega (arith, size, record_length e)) in
-    let rest = wrote_all v gs (omega (arith, size, length-sets w.space w.next (record_of e))) in
+    let rest = wrote_all v gs (search (rules, size, length-sets w.space w.next (record_of e))) in
     record {
-      numbers = ap (λ u. u.number ∷ numbers_from u es) first ∙ ap (λ ns. 0 ∷ ns) rest.numbers;
-      next = ap (λ u. (foldl write_next u es).next) first ∙ omega (arith, rest.next, size);
-      held = ap (λ u. (foldl write_next u es).space) first ∙ rest.held ∙ sets_append (record_of e) w.space w.next (log_of es);
+      numbers = search (rules, first, rest.numbers);
+      next = search (rules, first, rest.next, size);
+      held = search (rules, first, rest.held, sets_append (record_of e) w.space w.next (log_of es));
     }
 
 -- what is written into a space, and what is read from its part up to the last place returned
@@ -126,12 +104,11 @@ pub record WrittenBack (space : List ℕ) (es : List Entry) : Type 0 where
 pub written_back : (space : List ℕ) {es : List Entry} → AllGood es → length (log_of es) ≤ length space → WrittenBack space es
 unfolding write_all
 written_back space {es} g room =
-    let w = wrote_all (unwritten space) g (omega arith) in
-    let next : (foldl write_next (unwritten space) es).next ≡ length (log_of es) = omega (arith, w.next) in
-    let held : (foldl write_next (unwritten space) es).space ≡ log_of es ++ drop (length (log_of es)) space = w.held ∙ sets_front (log_of es) space room in
+    let w = wrote_all (unwritten space) g (search rules) in
+    let held : (write_all space es).space ≡ log_of es ++ drop (length (log_of es)) space = search (rules, w.held, sets_front (log_of es) space room) in
     record {
       numbers = w.numbers;
-      next = next;
+      next = search (rules, w.next);
       held = held;
-      read = rw (next, held, take-append_seam (log_of es) (drop (length (log_of es)) space)) (log_back g);
+      read = search (rules, w.next, held, take-append_seam (log_of es) (drop (length (log_of es)) space), log_back g);
     }

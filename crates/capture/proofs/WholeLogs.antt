@@ -1,16 +1,17 @@
 -- PROMISE: the records of a whole log, up to its first fault, and that fault's number are what reading it gives, each call at the place that
 -- the last one returned. And they are the log: it is what is written for them, and behind it stands what is no record.
-use mathlib.Core.Path.{◌≡◌, refl, sym, ap, ap₂, ◌∙◌}
+use mathlib.Core.Path.{◌≡◌, refl, sym, ap, ◌∙◌}
 use mathlib.Core.List.{List, ◌++◌, append_assoc}
 use Prim.Native.Nat.{ℕ, zero, suc, ◌+◌, ◌≤◌}
 use native.Mathlib.Omega.{arith}
-use lib.ListN.{length, drop, length-drop, take-append-drop}
+use lib.ListN.{length, take, drop, length-drop, take-append-drop}
 use lib.Seq.{drop-drop}
+use Rattle.std.proofs.Common.{rules}
 use Rattle.octets.specs.Octets.{Octets}
 use Rattle.octets.proofs.LawsLists.{octets_drop}
 use Rattle.octets.proofs.LawsTests.{impossible}
-use Rattle.capture.specs.Records.{record_of, Located}
-use Rattle.capture.specs.Reading.{Report, one, no_record, length_in, record_in, read_front, placed, read_at}
+use Rattle.capture.specs.Records.{entry, record_of, Located}
+use Rattle.capture.specs.Reading.{Report, one, no_record, direction_in, length_in, record_in, read_front, placed, read_at}
 use Rattle.capture.specs.Logs.{log_of, AllGood, none, more, entry_of, Entries, with_entry, ended, entries_in}
 use Rattle.capture.proofs.LawsReading.{FrontCase, nothing, found, front_case, Front, read_from_lem, front_is}
 use Rattle.capture.proofs.LawsLogs.{entries_end, entries_next}
@@ -23,18 +24,14 @@ module _ (log : List ℕ) (at : ℕ) where
   unfolding entry_of
   call_next e =
       let f = front_at log at e in
-      let xs : List ℕ = drop at log in
-      let n : ℕ = length_in xs in
-      rw f.2
-      (entries_next xs (front_is f.1)
-      ∙ rw (drop-drop 5 at log, drop-drop (5 + n) at log))
+      search (rules, f.2, entries_next (drop at log) (front_is f.1), drop-drop 5 at log, drop-drop (5 + length_in (drop at log)) at log)
 
   pub call_end : {n : ℕ} → at ≤ length log → read_at log at ≡ no_record n → entries_in (drop at log) ≡ ended n
   call_end {n} h e = entries_end (drop at log) (by_case (front_case (drop at log)) (sym (read_from_lem log at h) ∙ e))
     where
       by_case : {q : Report} → FrontCase (drop at log) q → placed at q ≡ no_record n → q ≡ no_record n
       by_case (nothing m) p = cc (ap (λ q. q.number) p)
-      by_case (found h m g l) p = impossible (cc (ap (λ q. q.found) p))
+      by_case (found f) p = impossible (cc (ap (λ q. q.found) p))
 
 -- ---- the whole log
 
@@ -54,10 +51,7 @@ laid_next log o f w =
     (record {
       good = more (front_good log f) w.good;
       rest = w.rest;
-      laid =
-          sym (take-append-drop k log)
-          ∙ ap₂ ◌++◌ (front_octets log f o) w.laid
-          ∙ sym (append_assoc (record_of _) (log_of (entries_in (drop k log)).entries) w.rest);
+      laid = search (rules, take-append-drop k log, front_octets log f o, w.laid, append_assoc (record_of (entry (direction_in log) (take (length_in log) (drop 5 log)))) (log_of (entries_in (drop k log)).entries) w.rest);
       ends = w.ends;
     })
 
@@ -67,8 +61,7 @@ laid_step log o rest = by_case (front_case log) refl
   where
     by_case : {q : Report} → FrontCase log q → read_front log ≡ q → Laid log (entries_in log)
     by_case (nothing m) e = rw (entries_end log e) (record { good = none; rest = log; laid = refl; ends = at_front log ∙ e })
-    by_case (found h m g l) e =
-        laid_next log o (record { is = refl; head = h; mark = m; range = g; inside = l }) (rest (5 + length_in log) (omega arith) l)
+    by_case (found f) e = laid_next log o f (rest (5 + length_in log) (omega arith) f.inside)
 
 laid_within : (n : ℕ) (log : List ℕ) → length log ≤ n → Octets log → Laid log (entries_in log)
 laid_within zero log h o = laid_step log o (λ k some most. absurd (omega arith))

@@ -3,11 +3,11 @@ use mathlib.Core.Path.{◌≡◌, refl, ◌∙◌}
 use mathlib.Core.List.{List, [], ◌∷◌}
 use Prim.Native.Nat.{ℕ, ◌≤◌}
 use native.Mathlib.Omega.{arith}
-use borrow.Author.Tests.{ltb-true}
-use lib.Dec.{ltb, eqb}
-use lib.ListN.{length, length-set}
+use lib.Dec.{eqb}
+use lib.ListN.{length}
+use Rattle.std.proofs.Common.{rules}
 use Rattle.std.specs.Prelude.{Option, Some, None}
-use Rattle.octets.proofs.LawsTests.{by_test, chosen}
+use Rattle.octets.proofs.LawsTests.{chosen}
 use Rattle.lines.specs.declared.reader.Stage.{Stage}
 use Rattle.lines.specs.declared.reader.Stage.TheVariants.{Start, Half, Octet, Space, Wrong}
 use Rattle.lines.specs.declared.reader.LineReader.{LineReader}
@@ -28,12 +28,7 @@ moved : (h : Keeping) (p : Stage) → Goes h (keeping (at h.reader p) h.out)
 moved h p = record { size = refl; inside = λ i. i }
 
 kept_goes : (h : Keeping) (x : ℕ) → Goes h (with_octet h x)
-kept_goes h x =
-    chosen (Goes h) (ltb h.reader.count (length h.out))
-    (λ t. let room = ltb-true h.reader.count (length h.out) t in
-    let same = length-set h.out h.reader.count x in
-    record { size = same; inside = λ i. omega arith })
-    (λ t. record { size = refl; inside = λ i. i })
+kept_goes h x = record { size = search rules; inside = λ i. search rules }
 
 first_goes : (h : Keeping) (c : ℕ) → Goes h (keeping (first h.reader c) h.out)
 first_goes h c = moved h (half_of (digit_of c))
@@ -64,14 +59,14 @@ count_of (Some (More n)) = n
 count_of None = 0
 
 answered : (r : LineReader) → count_of (Some (good_line r)) ≡ r.count
-answered r = by_test r.more (λ t. simp t) (λ t. simp t)
+answered r = search rules
 
 counted : (p : Stage) (r : LineReader) → count_of (answer_at p r) ≤ r.count
-counted Start r = omega (arith, answered r)
-counted (Half v) r = omega arith
-counted Octet r = omega (arith, answered r)
-counted Space r = omega arith
-counted Wrong r = omega arith
+counted Start r = search rules
+counted (Half v) r = search rules
+counted Octet r = search rules
+counted Space r = search rules
+counted Wrong r = search rules
 
 pub finished_in_space : (h : Keeping) → InSpace h → count_of (answer_of h.reader) ≤ length h.out
 finished_in_space h i = omega (arith, counted h.reader.stage h.reader)

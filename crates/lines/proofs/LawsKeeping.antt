@@ -5,12 +5,9 @@ use mathlib.Core.List.{List, [], ◌∷◌, foldl}
 use Prim.Native.Nat.{ℕ, suc, ◌+◌, ◌≤◌, ◌<◌}
 use native.Mathlib.Omega.{arith}
 use native.Mathlib.Nat.{add-zero}
-use native.Mathlib.Numerals.{add-one}
-use borrow.Author.Tests.{lt-ltb, le-ltb}
-use lib.Dec.{ltb}
 use lib.ListN.{length, set, length-set}
 use lib.Seq.{sets}
-use Rattle.octets.proofs.LawsTests.{by_test}
+use Rattle.std.proofs.Common.{rules}
 use Rattle.lines.specs.declared.reader.Stage.TheVariants.{Octet}
 use Rattle.lines.specs.declared.reader.LineReader.{LineReader}
 use Rattle.lines.specs.Reader.{Keeping, keeping, with_octet}
@@ -20,13 +17,13 @@ abbrev pub behind : ℕ → Bool → LineReader
 behind n m = record { stage = Octet; count = n; more = m }
 
 pub kept_stage : (h : Keeping) (x : ℕ) → (with_octet h x).reader.stage ≡ Octet
-kept_stage h x = by_test (ltb h.reader.count (length h.out)) (λ t. simp t) (λ t. simp t)
+kept_stage h x = search rules
 
 kept_room : (n : ℕ) (m : Bool) (out : List ℕ) (x : ℕ) → n < length out → with_octet (keeping (behind n m) out) x ≡ keeping (behind (suc n) m) (set out n x)
-kept_room n m out x room = rw (lt-ltb _ _ room, add-one)
+kept_room n m out x room = search rules
 
 kept_full : (n : ℕ) (m : Bool) (out : List ℕ) (x : ℕ) → length out ≤ n → with_octet (keeping (behind n m) out) x ≡ keeping (behind n true) out
-kept_full n m out x full = rw (le-ltb _ _ full)
+kept_full n m out x full = search rules
 
 -- where there is room for all
 pub all_kept : (xs : List ℕ) (n : ℕ) (m : Bool) (out : List ℕ) → n + length xs ≤ length out

@@ -4,13 +4,14 @@ use mathlib.Core.List.{List, [], ◌∷◌, ◌++◌}
 use Prim.Native.Nat.{ℕ, ◌+◌, ◌*◌, ◌-◌, ◌≤◌, ◌<◌}
 use native.Mathlib.Omega.{arith}
 use lib.ListN.{length, get_or, drop, length-drop, drop_of_length-le}
+use Rattle.std.proofs.Common.{rules}
 use Rattle.octets.proofs.LawsLists.{drop_next}
 use Rattle.lines.specs.Line.{shown, line_of}
 
 pub line_next : (xs : List ℕ) (i : ℕ) → i < length xs
     → line_of (drop i xs) ≡ shown (get_or xs i 0) (length xs - i - 1) ++ line_of (drop (i + 1) xs)
 unfolding line_of
-line_next xs i h = let left : length xs - (i + 1) ≡ length xs - i - 1 = omega arith in rw (drop_next xs i h, length-drop, left)
+line_next xs i h = search (rules, drop_next xs i h, length-drop (i + 1) xs)
 
 pub line_done : (xs : List ℕ) (i : ℕ) → length xs ≤ i → line_of (drop i xs) ≡ []
 unfolding line_of
