@@ -11,6 +11,7 @@ use borrow.Author.Tests.{ltb-true, ltb-false}
 use lib.Dec.{eqb, ltb}
 use lib.ListN.{length, get_or, take, drop, length-append, length-set, drop_of_length-le}
 use lib.Seq.{take_all, take-append-le, drop-append-le, take-suc-set, get_or-take, append_snoc}
+use Rattle.std.specs.Prelude.{Option, Some}
 use Rattle.octets.specs.Scanning.{all_from, all_below}
 use Rattle.octets.proofs.LawsTests.{by_test, chosen}
 use Rattle.lines.specs.declared.reader.HexLine.{HexLine}
@@ -50,7 +51,7 @@ record Kept (text space : List ℕ) (k : Coming) : Type 0 where
   hex : keeping k.line.hex k.space ≡ reading (keeping fresh_hex space) (drop body_at text)
 
 kept_none : (space : List ℕ) → Kept [] space (coming fresh space)
-unfolding is_blank all_below all_from reading
+unfolding is_blank all_below all_from
 kept_none space = record { size = refl; len = refl; front = refl; blank = refl; hex = refl }
 
 module _ (text space : List ℕ) (k : Coming) (c : ℕ) (h : Kept text space k) where
@@ -89,7 +90,7 @@ module _ (text space : List ℕ) (k : Coming) (c : ℕ) (h : Kept text space k) 
       rw t (h.front ∙ sym (take-append-le max_text text (c ∷ []) (omega (arith, h.len)))))
 
   hex_next : hex_after k c ≡ reading (keeping fresh_hex space) (drop body_at more)
-  unfolding hex_after reading
+  unfolding hex_after
   hex_next =
       let len = k.line.len in
       let start = keeping fresh_hex space in
@@ -125,8 +126,9 @@ kept_all (c ∷ rest) text space k h =
 -- ---- the event
 
 -- by what it goes
-abbrev told : Bool → ℕ → Bool → HexLine → Event → Event
-told blank first body hex other = cond blank Nothing (cond (eqb first 0x23) Nothing (cond body (body_event hex) other))
+abbrev told : Bool → ℕ → Bool → Option HexLine → Option Event → Option Event
+told blank first body hex other =
+    cond blank (Some Nothing) (cond (eqb first 0x23) (Some Nothing) (cond body (body_event hex) other))
 
 module _ (x : ℕ) (xs space : List ℕ) (k : Coming) (h : Kept (x ∷ xs) space k) where
   first : get_or k.line.text 0 0 ≡ x
@@ -143,7 +145,7 @@ module _ (x : ℕ) (xs space : List ℕ) (k : Coming) (h : Kept (x ∷ xs) space
 
 pub event_told : (text space : List ℕ)
     → let k = foldl taking (coming fresh space) text in (event_at k.line ≡ event_in text space) × (k.space ≡ body_in text space)
-unfolding event_at event_in is_blank all_below all_from body_in reading
+unfolding event_at event_in is_blank all_below all_from body_in
 event_told [] space = (refl, refl)
 event_told (x ∷ xs) space =
     let h = kept_all (x ∷ xs) [] space (coming fresh space) (kept_none space) in

@@ -4,17 +4,19 @@ use mathlib.Core.Path.{◌≡◌, refl, sym, ap, ◌∙◌}
 use mathlib.Core.List.{List, [], ◌∷◌, foldl}
 use Prim.Native.Nat.{ℕ, zero, suc, ◌+◌, ◌-◌, ◌*◌, ◌≤◌, ◌<◌}
 use native.Mathlib.Omega.{arith}
-use borrow.Author.Tests.{ne_eqb, lt-ltb, eqb-true, eqb-false, leb-true, leb-false}
-use lib.Dec.{eqb, ltb, leb}
+use borrow.Author.Tests.{ne_eqb, lt-ltb, ltb-false, eqb-true, eqb-false, leb-true, leb-false}
+use lib.Dec.{eqb, ltb, leb, eqb-zero-suc, eqb-suc-suc}
 use lib.ListN.{length, get_or, take, drop, length-take, length-drop}
 use lib.Seq.{take_all}
+use Rattle.std.specs.Prelude.{Option, Some, None, ◌≢◌}
+use Rattle.std.specs.Cmp.Lexicographic.{pointwise}
 use Rattle.octets.specs.Comparing.{common_front, is_same}
 use Rattle.octets.specs.Ranges.{is_between}
 use Rattle.octets.proofs.LawsRanges.{inside_told}
 use Rattle.octets.proofs.LawsTests.{by_test, chosen}
 use Rattle.transaction_script.specs.declared.event.Event.{Event}
-use Rattle.transaction_script.specs.declared.event.Event.TheVariants.{Open, Reset, Fresh, Unknown}
-use Rattle.transaction_script.specs.Event.{open_word, reset_word, fresh_word, give_up_words, table_word, steady_word, resetting_word, starts_with, no_number, with_digit, decimal_in, bits_in, give_up_event, put_event, table_event, event_of}
+use Rattle.transaction_script.specs.declared.event.Event.TheVariants.{Open, Reset, Fresh}
+use Rattle.transaction_script.specs.Event.{open_word, reset_word, fresh_word, give_up_words, table_word, steady_word, resetting_word, starts_with, with_digit, digit_more, decimal_in, bits_in, give_up_event, resetting_in, put, table_event, event_of}
 use Rattle.transaction_script.specs.Line.{max_text}
 
 -- ---- words
@@ -25,6 +27,14 @@ common_within [] ys = omega arith
 common_within (x ∷ xs) [] = omega arith
 common_within (x ∷ xs) (y ∷ ys) =
     chosen (λ (n : ℕ). n ≤ suc (length xs)) (eqb x y) (λ t. omega (arith, common_within xs ys)) (λ t. omega arith)
+
+-- in the library's words
+pub starts_is : (text word : List ℕ) → starts_with text word ≡ pointwise eqb (take (length word) text) word
+unfolding starts_with common_front
+starts_is [] [] = refl
+starts_is [] (y ∷ ys) = rw eqb-zero-suc
+starts_is (x ∷ xs) [] = refl
+starts_is (x ∷ xs) (y ∷ ys) = by_test (eqb x y) (λ t. simp (t, eqb-suc-suc) (starts_is xs ys)) (λ t. simp (t, eqb-zero-suc))
 
 -- a text is as long as the word that it starts with
 pub starts_room : (text word : List ℕ) → starts_with text word ≡ true → length word ≤ length text
@@ -51,61 +61,71 @@ other_length xs ys h = rw (ne_eqb (length xs) (length ys) (λ e. omega arith))
 
 -- ---- four letters and more are no number
 
-at_least : (m n c : ℕ) → (is_between 0x30 0x39 c ≡ true → m ≤ n * 10 + (c - 0x30)) → m ≤ no_number → m ≤ with_digit n c
+-- what a digit more comes to, where it is a number: between the number's tenfold and 255
+more_told : (P : Option ℕ → Type 0) (n c : ℕ) → P None
+    → ((m : ℕ) → n * 10 ≤ m → (n ≡ 0 → c ≢ 0x30 → 0 < m) → m ≤ 255 → P (Some m)) → P (with_digit n c)
 unfolding with_digit
-at_least m n c h k =
-    chosen (λ (d : ℕ). m ≤ d) (ltb 25 n) (λ t. k)
-    (λ t. chosen (λ (d : ℕ). m ≤ d) (is_between 0x30 0x39 c)
-    (λ u. chosen (λ (d : ℕ). m ≤ d) (ltb 255 (n * 10 + (c - 0x30))) (λ v. k) (λ v. h u)) (λ u. k))
+more_told P n c none some =
+    chosen P (is_between 0x30 0x39 c)
+    (λ t.
+    let i = inside_told 0x30 0x39 c t in
+    chosen P (ltb 255 (n * 10 + (c - 0x30))) (λ _. none)
+    (λ u. some (n * 10 + (c - 0x30)) (omega arith) (λ z o. omega (arith, i)) (ltb-false 255 (n * 10 + (c - 0x30)) u)))
+    (λ _. none)
 
-none_after : (n c : ℕ) → 25 < n → with_digit n c ≡ no_number
-unfolding with_digit
-none_after n c h = rw (lt-ltb 25 n h)
-
-none_stays : (xs : List ℕ) → foldl with_digit no_number xs ≡ no_number
+pub none_stays : (xs : List ℕ) → foldl digit_more None xs ≡ None
 none_stays [] = refl
-none_stays (x ∷ xs) = ap (λ n. foldl with_digit n xs) (none_after no_number x (omega arith)) ∙ none_stays xs
+none_stays (x ∷ xs) = none_stays xs
 
-long_digits : (text : List ℕ) → 3 < length text → (get_or text 0 0 ≡ 0x30 → ⊥) → foldl with_digit 0 text ≡ no_number
+-- a number of three digits gets no fourth one
+none_after : (n c : ℕ) (xs : List ℕ) → 25 < n → foldl digit_more (with_digit n c) xs ≡ None
+none_after n c xs h =
+    more_told (λ r. foldl digit_more r xs ≡ None) n c (none_stays xs) (λ m low _ most. absurd (omega arith))
+
+long_digits : (text : List ℕ) → 3 < length text → get_or text 0 0 ≢ 0x30 → foldl digit_more (Some 0) text ≡ None
 long_digits [] l z = absurd (omega arith)
 long_digits (a ∷ []) l z = absurd (omega arith)
 long_digits (a ∷ b ∷ []) l z = absurd (omega arith)
 long_digits (a ∷ b ∷ c ∷ []) l z = absurd (omega arith)
 long_digits (a ∷ b ∷ c ∷ d ∷ xs) l z =
-    let one = with_digit 0 a in
-    let two = with_digit one b in
-    let p : 1 ≤ one = at_least 1 0 a (λ t. let i = inside_told 0x30 0x39 a t in omega (arith, z)) (omega arith) in
-    let q : 10 ≤ two = at_least 10 one b (λ t. omega arith) (omega arith) in
-    let r : 100 ≤ with_digit two c = at_least 100 two c (λ t. omega arith) (omega arith) in
-    ap (λ n. foldl with_digit n xs) (none_after (with_digit two c) d (omega arith)) ∙ none_stays xs
+    more_told (λ r. foldl digit_more r (b ∷ c ∷ d ∷ xs) ≡ None) 0 a (none_stays (b ∷ c ∷ d ∷ xs))
+    (λ one _ above _.
+    let p : 0 < one = above refl z in
+    more_told (λ r. foldl digit_more r (c ∷ d ∷ xs) ≡ None) one b (none_stays (c ∷ d ∷ xs))
+    (λ two low _ _.
+    more_told (λ r. foldl digit_more r (d ∷ xs) ≡ None) two c (none_stays (d ∷ xs))
+    (λ three low' _ _. none_after three d xs (omega arith))))
 
-long_decimal : (text : List ℕ) → 3 < length text → decimal_in text ≡ no_number
+long_decimal : (text : List ℕ) → 3 < length text → decimal_in text ≡ None
 unfolding decimal_in
 long_decimal text l =
-    rw (ne_eqb (length text) 0 (λ e. omega arith), ne_eqb (length text) 1 (λ e. omega arith))
-    (chosen (λ (n : ℕ). n ≡ no_number) (eqb (get_or text 0 0) 0x30) (λ t. refl) (λ t. long_digits text l (eqb-false (get_or text 0 0) 0x30 t)))
+    rw (ne_eqb (length text) 0 (λ e. omega arith))
+    (by_test (eqb (get_or text 0 0) 0x30) (λ t. rw (t, lt-ltb 1 (length text) (omega arith)))
+    (λ t. rw t (long_digits text l (eqb-false (get_or text 0 0) 0x30 t))))
 
-long_give_up : (text : List ℕ) → 3 < length text → give_up_event text ≡ Unknown
+long_give_up : (text : List ℕ) → 3 < length text → give_up_event text ≡ None
 unfolding give_up_event
 long_give_up text l = rw (long_decimal text l)
 
 -- ---- a table's line has nineteen letters behind its word at most
 
-long_put : (waiting given_up : ℕ) (word : List ℕ) → 9 < length word → put_event waiting given_up word ≡ Unknown
-unfolding put_event
-long_put waiting given_up word l = rw (other_length word steady_word (omega arith), other_length word resetting_word l)
+long_word : (word : List ℕ) → 9 < length word → resetting_in word ≡ None
+unfolding resetting_in
+long_word word l = rw (other_length word steady_word (omega arith), other_length word resetting_word l)
 
-long_table : (text : List ℕ) → 19 < length text → table_event text ≡ Unknown
+put_none : (w g : Option ℕ) → put w g None ≡ None
+put_none None g = refl
+put_none (Some w) None = refl
+put_none (Some w) (Some g) = refl
+
+long_table : (text : List ℕ) → 19 < length text → table_event text ≡ None
 unfolding table_event
 long_table text l =
-    let is : Event → Type 0 = λ e. e ≡ Unknown in
-    let waiting = bits_in (take 4 text) in
-    let given_up = bits_in (take 4 (drop 5 text)) in
+    let is : Option Event → Type 0 = λ e. e ≡ None in
     chosen is (ltb (length text) 10) (λ t. refl)
     (λ t. chosen is (eqb (get_or text 4 0) 0x20)
     (λ u. chosen is (eqb (get_or text 9 0) 0x20)
-    (λ v. chosen is (eqb waiting no_number) (λ w. refl)
-    (λ w. chosen is (eqb given_up no_number) (λ g. refl) (λ g. long_put waiting given_up (drop 10 text) (omega (arith, length-drop 10 text)))))
+    (λ v. rw (long_word (drop 10 text) (omega (arith, length-drop 10 text))) (put_none (bits_in (take 4 text)) (bits_in (take 4 (drop 5 text)))))
     (λ v. refl))
     (λ u. refl))
 
@@ -132,11 +152,11 @@ module _ (text : List ℕ) (long : max_text < length text) where
   long_event : event_of front ≡ event_of text
   unfolding event_of
   long_event i =
-      cond (same open_word (omega arith) i) Open
-      (cond (same reset_word (omega arith) i) Reset
-      (cond (same fresh_word (omega arith) i) Fresh
+      cond (same open_word (omega arith) i) (Some Open)
+      (cond (same reset_word (omega arith) i) (Some Reset)
+      (cond (same fresh_word (omega arith) i) (Some Fresh)
       (cond (starts_take max_text text give_up_words (omega arith) i) (gives i)
-      (cond (starts_take max_text text table_word (omega arith) i) (puts i) Unknown))))
+      (cond (starts_take max_text text table_word (omega arith) i) (puts i) None))))
 
 pub event_take : (text : List ℕ) → event_of (take max_text text) ≡ event_of text
 event_take text =

@@ -1,5 +1,4 @@
 pub mod LawsFolding
-pub mod LawsBits
 pub mod LawsEvent
 pub mod EventTold
 pub mod LinesPlayed

@@ -1,11 +1,11 @@
 -- A line as it comes in, octet by octet, and the event that it is when it has ended.
-use Rattle.std.specs.Prelude.{Bool, true, false, cond, List, [], ◌∷◌, ℕ, ◌+◌, eqb, ltb, length, get_or, set, take, drop, replicate}
+use Rattle.std.specs.Prelude.{Bool, true, false, cond, Option, Some, None, List, [], ◌∷◌, ℕ, ◌+◌, eqb, ltb, length, get_or, set, take, drop, replicate}
 use Rattle.octets.specs.Scanning.{all_below}
 use Rattle.lines.specs.Reader.{Keeping, keeping, fresh as fresh_hex, reading, answer_of}
 use Rattle.lines.specs.declared.reader.HexLine.{HexLine}
-use Rattle.lines.specs.declared.reader.HexLine.TheVariants.{Octets, More, NoOctets}
+use Rattle.lines.specs.declared.reader.HexLine.TheVariants.{Octets, More}
 use Rattle.transaction_script.specs.declared.event.Event.{Event}
-use Rattle.transaction_script.specs.declared.event.Event.TheVariants.{Nothing, Body, Unknown}
+use Rattle.transaction_script.specs.declared.event.Event.TheVariants.{Nothing, Body}
 use Rattle.transaction_script.specs.declared.line.Line.{Line}
 use Rattle.transaction_script.specs.Event.{starts_with, event_of}
 
@@ -55,15 +55,15 @@ taking k c =
 -- ---- when it has ended
 
 -- a body has one octet or more; of one longer than the space, as many octets as the space holds
-abbrev pub body_event : HexLine → Event
-body_event (Octets count) = cond (eqb count 0) Unknown (Body count)
-body_event (More count) = Body count
-body_event NoOctets = Unknown
+abbrev pub body_event : Option HexLine → Option Event
+body_event (Some (Octets count)) = cond (eqb count 0) None (Some (Body count))
+body_event (Some (More count)) = Some (Body count)
+body_event None = None
 
-unfoldable pub event_at : Line → Event
+unfoldable pub event_at : Line → Option Event
 event_at l =
-    cond l.blank Nothing
-    (cond (eqb (get_or l.text 0 0) 0x23) Nothing
+    cond l.blank (Some Nothing)
+    (cond (eqb (get_or l.text 0 0) 0x23) (Some Nothing)
     (cond (starts_with (take l.len l.text) body_word) (body_event (answer_of l.hex)) (event_of (take l.len l.text))))
 
 -- ---- by its text alone
@@ -73,10 +73,10 @@ event_at l =
 unfoldable pub is_blank : List ℕ → Bool
 is_blank text = all_below (length text) (λ i. eqb (get_or text i 0) 0x20)
 
-unfoldable pub event_in : List ℕ → List ℕ → Event
+unfoldable pub event_in : List ℕ → List ℕ → Option Event
 event_in text space =
-    cond (is_blank text) Nothing
-    (cond (eqb (get_or text 0 0) 0x23) Nothing
+    cond (is_blank text) (Some Nothing)
+    (cond (eqb (get_or text 0 0) 0x23) (Some Nothing)
     (cond (starts_with text body_word) (body_event (answer_of (reading (keeping fresh_hex space) (drop body_at text)).reader)) (event_of text)))
 
 unfoldable pub body_in : List ℕ → List ℕ → List ℕ

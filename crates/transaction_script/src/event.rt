@@ -1,11 +1,12 @@
 // What a line asks for.
-ghost use Rattle.std.specs.Prelude.{◌≡◌, ◌<◌};
-ghost use Rattle.transaction_script.specs.Event.{starts_with, with_digit, decimal_in, bits_in, give_up_event, put_event, table_event, event_of};
+ghost use Rattle.std.specs.Prelude.{◌≡◌};
+ghost use Rattle.transaction_script.specs.Event.{with_digit, decimal_in, bits_in, resetting_in, table_event, event_of};
 
 use lines::{HexLine, read_line};
-use octets::{common_front, same_octets};
+use octets::same_octets;
+use transactions::Table;
 
-#[derive(Clone, Copy)]
+#[derive(Clone, Copy, PartialEq, Eq)]
 pub enum Event {
     // A blank line or a comment.
     Nothing,
@@ -16,144 +17,93 @@ pub enum Event {
     Body(usize),
     // A fresh table.
     Fresh,
-    // A table of these bits, waiting and given up, and whether a reset is under way.
-    Put(u16, u16, bool),
-    // No event.
-    Unknown,
-}
-
-// Above every number that a `give up` takes, and above every set of bits.
-const NO_NUMBER: u32 = 65536;
-
-pub fn starts_with(text: &[u8], word: &[u8]) -> bool
-    ensures { result ≡ starts_with text.now word.now }
-{
-    common_front(text, word) == word.len()
+    // Another table in place of the one that there was.
+    Put(Table),
 }
 
 // A number with a digit more, if it is still at most 255.
-fn with_digit(number: u32, letter: u8) -> u32
+#[tactic(auto, unfolding(crate::specs::Event::with_digit, octets::specs::Ranges::is_between))]
+fn with_digit(number: u8, letter: u8) -> Option<u8>
     ensures { result ≡ with_digit number letter }
 {
-    if 25 < number {
-        return NO_NUMBER;
-    }
     match letter {
-        b'0'..=b'9' => {
-            let next = number * 10 + (letter - b'0') as u32;
-            if 255 < next {
-                return NO_NUMBER;
-            }
-            next
-        }
-        _ => NO_NUMBER,
+        b'0'..=b'9' => number.checked_mul(10)?.checked_add(letter - b'0'),
+        _ => None,
     }
 }
 
 // A decimal of 0 to 255 without leading zeros.
-fn decimal(text: &[u8]) -> u32
+#[tactic(auto, unfolding(crate::specs::Event::decimal_in))]
+fn decimal(text: &[u8]) -> Option<u8>
     ensures { result ≡ decimal_in text.now }
 {
-    if text.len() == 0 {
-        return NO_NUMBER;
+    if text.is_empty() || (text[0] == b'0' && 1 < text.len()) {
+        return None;
     }
-    if text[0] == b'0' {
-        if text.len() == 1 {
-            return 0;
-        }
-        return NO_NUMBER;
+    let mut number = 0;
+    for letter in text {
+        number = with_digit(number, *letter)?;
     }
-    let mut number: u32 = 0;
-    let mut i: usize = 0;
-    while i < text.len() {
-        number = with_digit(number, text[i]);
-        i += 1;
-    }
-    number
+    Some(number)
 }
 
 // Two octets in hex, the high one first.
-fn bits(text: &[u8]) -> u32
+#[tactic(auto, unfolding(crate::specs::Event::bits_in))]
+fn bits(text: &[u8]) -> Option<u16>
     ensures { result ≡ bits_in text.now }
 {
     let mut octets = [0u8; 2];
     match read_line(text, &mut octets) {
-        HexLine::Octets(count) => {
-            if count == 2 {
-                return octets[0] as u32 * 256 + octets[1] as u32;
-            }
-            NO_NUMBER
-        }
-        HexLine::More(_) => NO_NUMBER,
-        HexLine::NoOctets => NO_NUMBER,
+        Some(HexLine::Octets(2)) => Some(u16::from_be_bytes(octets)),
+        _ => None,
     }
 }
 
-fn give_up_event(text: &[u8]) -> Event
-    ensures { result ≡ give_up_event text.now }
-{
-    let number = decimal(text);
-    if 255 < number {
-        return Event::Unknown;
-    }
-    Event::GiveUp(number as u8)
-}
-
-// The word behind two sets of bits.
-fn put_event(waiting: u16, given_up: u16, word: &[u8]) -> Event
-    ensures { result ≡ put_event waiting given_up word.now }
+// Whether a reset is under way.
+#[tactic(auto, unfolding(crate::specs::Event::resetting_in))]
+fn resetting(word: &[u8]) -> Option<bool>
+    ensures { result ≡ resetting_in word.now }
 {
     if same_octets(word, b"steady") {
-        return Event::Put(waiting, given_up, false);
+        return Some(false);
     }
     if same_octets(word, b"resetting") {
-        return Event::Put(waiting, given_up, true);
+        return Some(true);
     }
-    Event::Unknown
+    None
 }
 
-// What stands behind `table `.
-fn table_event(text: &[u8]) -> Event
+// What stands behind `table `: four digits, a space, four digits, a space, and a word.
+#[tactic(auto, unfolding(crate::specs::Event::table_event))]
+fn table_event(text: &[u8]) -> Option<Event>
     ensures { result ≡ table_event text.now }
 {
-    if text.len() < 10 {
-        return Event::Unknown;
+    if text.len() < 10 || text[4] != b' ' || text[9] != b' ' {
+        return None;
     }
-    if text[4] != b' ' {
-        return Event::Unknown;
-    }
-    if text[9] != b' ' {
-        return Event::Unknown;
-    }
-    let waiting = bits(&text[..4]);
-    let given_up = bits(&text[5..9]);
-    if waiting == NO_NUMBER {
-        return Event::Unknown;
-    }
-    if given_up == NO_NUMBER {
-        return Event::Unknown;
-    }
-    put_event(waiting as u16, given_up as u16, &text[10..])
+    Some(Event::Put(Table {
+        waiting: bits(&text[..4])?,
+        given_up: bits(&text[5..9])?,
+        resetting: resetting(&text[10..])?,
+    }))
 }
 
-// The event of a line that is neither blank nor a comment nor a body.
-pub fn event_of(text: &[u8]) -> Event
+// The event of a line that is neither blank nor a comment nor a body, if it is one.
+#[tactic(auto, using(crate::proofs::LawsEvent::starts_is), unfolding(crate::specs::Event::event_of, crate::specs::Event::give_up_event))]
+pub fn event_of(text: &[u8]) -> Option<Event>
     ensures { result ≡ event_of text.now }
 {
     if same_octets(text, b"open") {
-        return Event::Open;
+        return Some(Event::Open);
     }
     if same_octets(text, b"reset") {
-        return Event::Reset;
+        return Some(Event::Reset);
     }
     if same_octets(text, b"fresh") {
-        return Event::Fresh;
+        return Some(Event::Fresh);
     }
-    if starts_with(text, b"give up ") {
-        return give_up_event(&text[8..]);
+    if let Some(number) = text.strip_prefix(b"give up ") {
+        return Some(Event::GiveUp(decimal(number)?));
     }
-    if starts_with(text, b"table ") {
-        return table_event(&text[6..]);
-    }
-    Event::Unknown
+    table_event(text.strip_prefix(b"table ")?)
 }

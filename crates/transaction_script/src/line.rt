@@ -1,17 +1,17 @@
 // A line as it comes in, octet by octet. It may have any length, so that only what its event needs is kept.
-ghost use Rattle.std.specs.Prelude.{◌≡◌, ◌≤◌, length};
+ghost use Rattle.std.specs.Prelude.{◌≡◌, ◌≤◌};
 ghost use Rattle.lines.specs.Reader.{keeping, answer_of};
-ghost use Rattle.transaction_script.specs.Line.{max_text, coming, fresh, hex_after, taking, body_event, event_at};
 
-use crate::event::{Event, event_of, starts_with};
+use crate::event::{Event, event_of};
 use lines::{HexLine, LineReader};
 use octets::Body;
 
 #[derive(Clone, Copy)]
 pub struct Line {
-    // Its first octets: as many as the longest event that is no body has, and one more.
+    // Its first octets: as many as the longest event that is no body has, and one more. An array with a length beside it, since there is no heap.
     pub text: [u8; Line::MAX_TEXT],
-    // How many octets it has, or the most that are kept.
+    // How many octets it has, or the most that are kept. That bound stands in clauses: as a ghost field of the line it would be a part of every
+    // line in the definitions.
     pub len: usize,
     // There were only spaces.
     pub blank: bool,
@@ -20,6 +20,8 @@ pub struct Line {
 }
 
 impl Line {
+    ghost use Rattle.transaction_script.specs.Line.{max_text, coming, fresh, hex_after, taking, body_event, event_at};
+
     // `table 0008 0010 resetting` has 25 octets.
     pub const MAX_TEXT: usize = 26;
     // `body ` has five.
@@ -31,7 +33,7 @@ impl Line {
         ensures { result ≡ fresh }
     {
         Line {
-            text: [0u8; Line::MAX_TEXT],
+            text: [0; Line::MAX_TEXT],
             len: 0,
             blank: true,
             hex: LineReader::fresh(),
@@ -39,72 +41,53 @@ impl Line {
     }
 
     // What is read as hex, with an octet more of the line.
+    #[tactic(auto, unfolding(crate::specs::Line::hex_after))]
     fn read_hex(self, letter: u8, body: &mut [u8]) -> LineReader
         ensures { keeping result body.new ≡ hex_after (coming self body.old) letter }
     {
-        let hex = self.hex;
         if self.len < Line::BODY_AT {
-            return hex;
+            return self.hex;
         }
-        hex.read(&[letter], body)
+        self.hex.read(&[letter], body)
     }
 
     // One octet of it.
-    pub fn take(self, letter: u8, body: &mut [u8]) -> Line
+    #[tactic(auto, unfolding(crate::specs::Line::taking, crate::specs::Line::text_after, crate::specs::Line::len_after, crate::specs::Line::blank_after))]
+    pub fn take(mut self, letter: u8, body: &mut [u8]) -> Line
         ensures { coming result body.new ≡ taking (coming self body.old) letter }
     {
-        let hex = self.read_hex(letter, body);
-        let mut text = self.text;
-        let mut len = self.len;
-        if len < Line::MAX_TEXT {
-            text[len] = letter;
-            len += 1;
+        self.hex = self.read_hex(letter, body);
+        self.blank = self.blank && letter == b' ';
+        if self.len < Line::MAX_TEXT {
+            self.text[self.len] = letter;
+            self.len += 1;
         }
-        let mut blank = self.blank;
-        if letter != b' ' {
-            blank = false;
-        }
-        Line {
-            text,
-            len,
-            blank,
-            hex,
-        }
+        self
     }
 
     // The event of a line that begins with `body `.
-    fn body_event(self) -> Event
+    fn body_event(self) -> Option<Event>
         ensures { result ≡ body_event (answer_of self.hex) }
     {
-        let hex = self.hex;
-        match hex.finish() {
-            HexLine::Octets(count) => {
-                if count == 0 {
-                    return Event::Unknown;
-                }
-                Event::Body(count)
-            }
-            HexLine::More(count) => Event::Body(count),
-            HexLine::NoOctets => Event::Unknown,
+        match self.hex.finish()? {
+            HexLine::Octets(0) => None,
+            HexLine::Octets(count) | HexLine::More(count) => Some(Event::Body(count)),
         }
     }
 
-    // What the line asks for, when it has ended.
-    pub fn event(self) -> Event
+    // What the line asks for, when it has ended; none where it is no event.
+    #[tactic(auto, using(crate::proofs::LawsEvent::starts_is), unfolding(crate::specs::Line::event_at))]
+    pub fn event(self) -> Option<Event>
         requires { self.len ≤ max_text }
         ensures { result ≡ event_at self }
     {
-        if self.blank {
-            return Event::Nothing;
+        if self.blank || self.text[0] == b'#' {
+            return Some(Event::Nothing);
         }
-        let text = self.text;
-        if text[0] == b'#' {
-            return Event::Nothing;
-        }
-        let len = self.len;
-        if starts_with(&text[..len], b"body ") {
+        let text = &self.text[..self.len];
+        if text.starts_with(b"body ") {
             return self.body_event();
         }
-        event_of(&text[..len])
+        event_of(text)
     }
 }

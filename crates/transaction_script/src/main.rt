@@ -12,5 +12,6 @@ use crate::run::run;
 
 fn main(rt: HostRuntime) {
     let mut body = [0u8; Line::MAX_BODY];
-    run(rt.stdin(), rt.stdout(), &mut body);
+    // An answer that cannot be written ends the program, and nothing more.
+    run(rt.stdin(), rt.stdout(), &mut body).ok();
 }

@@ -4,20 +4,41 @@ ghost use Rattle.transactions.specs.Table.{numbers_of, result_of, after_reply};
 ghost use Rattle.transaction_script.specs.Play.{outcome_of, reporting, playing};
 
 use crate::event::Event;
-use transactions::{Answer, Step, Table};
+use std::fmt;
+use transactions::{Answer, Refusal, Step, Table};
 
 // What is printed.
-#[derive(Clone, Copy)]
+#[derive(Clone, Copy, PartialEq, Eq)]
 pub enum Said {
+    // Nothing at all, which is a line's answer too: so it is displayed like the others.
     Nothing,
     // `ok`
     Done,
     // `no event`
     Unknown,
-    Answer(Answer),
+    Answer(Result<Answer, Refusal>),
 }
 
-#[derive(Clone, Copy)]
+impl fmt::Display for Said {
+    // The line, with its end.
+    fn fmt<W: fmt::Write>(&self, f: &mut fmt::Formatter<W>) -> fmt::Result {
+        match *self {
+            Said::Nothing => Ok(()),
+            Said::Done => f.write_str("ok\n"),
+            Said::Unknown => f.write_str("no event\n"),
+            Said::Answer(Ok(Answer::Opened(number))) => writeln!(f, "opened {number}"),
+            Said::Answer(Ok(Answer::Allowed)) => f.write_str("allowed\n"),
+            Said::Answer(Ok(Answer::GivenUp)) => f.write_str("given up\n"),
+            Said::Answer(Ok(Answer::Answered(number))) => writeln!(f, "answered {number}"),
+            Said::Answer(Ok(Answer::Late(number))) => writeln!(f, "late {number}"),
+            Said::Answer(Ok(Answer::Announced)) => f.write_str("announced\n"),
+            Said::Answer(Ok(Answer::Stray)) => f.write_str("stray\n"),
+            Said::Answer(Err(why)) => writeln!(f, "refused {}", why.number()),
+        }
+    }
+}
+
+#[derive(Clone, Copy, PartialEq, Eq)]
 pub struct Played {
     pub said: Said,
     pub table: Table,
@@ -26,11 +47,9 @@ pub struct Played {
 fn answered(step: Step) -> Played
     ensures { outcome_of result ≡ reporting (result_of step) }
 {
-    let answer = step.answer;
-    let table = step.table;
     Played {
-        said: Said::Answer(answer),
-        table,
+        said: Said::Answer(step.answer),
+        table: step.table,
     }
 }
 
@@ -38,15 +57,19 @@ fn answered(step: Step) -> Played
 fn told(table: Table, count: usize, body: &[u8]) -> Step
     ensures { result_of result ≡ after_reply (numbers_of table) (take count body.now) }
 {
-    if body.len() < count {
-        return table.reply(body);
-    }
-    table.reply(&body[..count])
+    table.reply(body.get(..count).unwrap_or(body))
 }
 
-pub fn play(table: Table, event: Event, body: &[u8]) -> Played
+#[tactic(auto, unfolding(crate::specs::Play::playing))]
+pub fn play(table: Table, event: Option<Event>, body: &[u8]) -> Played
     ensures { outcome_of result ≡ playing (numbers_of table) event body.now }
 {
+    let Some(event) = event else {
+        return Played {
+            said: Said::Unknown,
+            table,
+        };
+    };
     match event {
         Event::Nothing => Played {
             said: Said::Nothing,
@@ -60,16 +83,8 @@ pub fn play(table: Table, event: Event, body: &[u8]) -> Played
             said: Said::Done,
             table: Table::fresh(),
         },
-        Event::Put(waiting, given_up, resetting) => Played {
+        Event::Put(table) => Played {
             said: Said::Done,
-            table: Table {
-                waiting,
-                given_up,
-                resetting,
-            },
-        },
-        Event::Unknown => Played {
-            said: Said::Unknown,
             table,
         },
     }

@@ -1,46 +1,23 @@
--- The invariant: taking the digits that are left from here is taking all.
-use mathlib.Core.Path.{refl, sym, ap, ◌∙◌}
+-- A letter that makes it no number is the end: what is left does not change that.
+use mathlib.Core.Path.{◌≡◌, sym, ap, ◌∙◌}
 use mathlib.Core.List.{foldl}
 use Prim.Native.Nat.{◌+◌}
 use native.Mathlib.Omega.{arith}
-use borrow.Author.Tests.{eq-eqb, ne_eqb}
 use lib.ListN.{drop}
-use Rattle.transaction_script.specs.Event.{with_digit, decimal_in}
-use Rattle.transaction_script.proofs.LawsFolding.{take_next, none_left}
+use Rattle.std.specs.Prelude.{Some, None}
+use Rattle.std.proofs.lemmas.Grind.{common_steps}
+use Rattle.transaction_script.specs.Event.{digit_more, decimal_in}
+use Rattle.transaction_script.proofs.LawsEvent.{none_stays}
+use Rattle.transaction_script.proofs.LawsFolding.{take_next}
 use Rattle.transaction_script.proofs.event.decimal.Goals as goal
 
-pub returns-then-text-eq0 : goal.returns-then-text-eq0
+pub returns-in_err-number : goal.returns-in_err-number
 unfolding decimal_in
-returns-then-text-eq0 c =
-    rw (eq-eqb _ _ c.if-text-eq0.true)
-
-pub returns-then-text-eq1 : goal.returns-then-text-eq1
-unfolding decimal_in
-returns-then-text-eq1 c =
-    rw (ne_eqb _ _ c.if-text-eq0.false, eq-eqb _ _ c.if-text-eq48.true, eq-eqb _ _ c.if-text-eq1.true)
-
-pub returns-then-text-eq48 : goal.returns-then-text-eq48
-unfolding decimal_in
-returns-then-text-eq48 c =
-    rw (ne_eqb _ _ c.if-text-eq0.false, eq-eqb _ _ c.if-text-eq48.true, ne_eqb _ _ c.if-text-eq1.false)
-
-pub loop-i-init : goal.loop-i-init
-unfolding decimal_in
-loop-i-init c =
-    (omega arith, refl)
-
-pub loop-i-preserved : goal.loop-i-preserved
-unfolding decimal_in
-loop-i-preserved c =
-    let w = c.loop-i in
+returns-in_err-number c =
+    let w = c.loop-letter in
     let text = c.args.text.now in
-    let here = ap (λ n. foldl with_digit n (drop (w.i + 1) text)) c.with_digit-number.ensures in
-    (omega arith, here ∙ take_next with_digit w.number text w.i (omega arith) ∙ w.invariant.1)
-
-pub returns : goal.returns
-unfolding decimal_in
-returns c =
-    let w = c.loop-i in
-    let text = c.args.text.now in
-    none_left with_digit w.number text w.i c.loop-i-test.false ∙ w.invariant.1
-    ∙ sym (rw (ne_eqb _ _ c.if-text-eq0.false, ne_eqb _ _ c.if-text-eq48.false))
+    let rest = drop (w.letter-index + 1) text in
+    let none : foldl digit_more (Some 0) text ≡ None
+    = sym w.invariant ∙ sym (take_next digit_more (Some w.number) text w.letter-index (omega arith))
+    ∙ ap (λ r. foldl digit_more r rest) (sym c.with_digit.ensures ∙ c.in_err-number.was) ∙ none_stays rest in
+    grind (arith, common_steps, none)

@@ -3,8 +3,5 @@ use Rattle.std.proofs.Common.{◌≤◌}
 use Rattle.transaction_script.specs.Line.{max_text}
 use Rattle.transaction_script.proofs.run.run.Given as goal
 
-abbrev pub invariant-loop-reads : goal.invariant-loop-reads
-invariant-loop-reads l = l.script.line.len ≤ max_text
-
-abbrev pub decreases-loop-reads : goal.decreases-loop-reads
-decreases-loop-reads l = l.reads
+abbrev pub invariant-loop : goal.invariant-loop
+invariant-loop l = l.script.line.len ≤ max_text
