@@ -1,6 +1,6 @@
 -- Laws of octets kept one after the other: as many as there is room for.
 use mathlib.Core.Bool.{Bool, true}
-use mathlib.Core.Path.{◌≡◌, refl, sym, ap, ◌∙◌}
+use mathlib.Core.Path.{◌≡◌, refl, sym, ap}
 use mathlib.Core.List.{List, [], ◌∷◌, foldl}
 use Prim.Native.Nat.{ℕ, suc, ◌+◌, ◌≤◌, ◌<◌}
 use native.Mathlib.Omega.{arith}
@@ -31,14 +31,13 @@ pub all_kept : (xs : List ℕ) (n : ℕ) (m : Bool) (out : List ℕ) → n + len
 all_kept [] n m out room = ap (λ k. keeping (behind k m) out) (sym (add-zero n))
 all_kept (x ∷ xs) n m out room =
     let next : suc n + length xs ≡ n + suc (length xs) = omega arith in
-    ap (λ h. foldl with_octet h xs) (kept_room n m out x (omega arith))
-    ∙ all_kept xs (suc n) m (set out n x) (omega (arith, length-set out n x)) ∙ ap (λ k. keeping (behind k m) (sets (set out n x) (suc n) xs)) next
+    search (rules, kept_room n m out x (search rules), all_kept xs (suc n) m (set out n x) (search (rules, length-set out n x)), next)
 
 -- where there is none
 pub none_kept : (xs : List ℕ) (n : ℕ) (out : List ℕ) → length out ≤ n → foldl with_octet (keeping (behind n true) out) xs ≡ keeping (behind n true) out
 none_kept [] n out full = refl
-none_kept (x ∷ xs) n out full = ap (λ h. foldl with_octet h xs) (kept_full n true out x full) ∙ none_kept xs n out full
+none_kept (x ∷ xs) n out full = search (rules, kept_full n true out x full, none_kept xs n out full)
 
 pub more_told : (x : ℕ) (xs : List ℕ) (n : ℕ) (m : Bool) (out : List ℕ) → length out ≤ n
     → foldl with_octet (keeping (behind n m) out) (x ∷ xs) ≡ keeping (behind n true) out
-more_told x xs n m out full = ap (λ h. foldl with_octet h xs) (kept_full n m out x full) ∙ none_kept xs n out full
+more_told x xs n m out full = search (rules, kept_full n m out x full, none_kept xs n out full)

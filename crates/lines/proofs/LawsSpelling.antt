@@ -1,8 +1,7 @@
 -- Laws of spelling: a digit of the grammar is what `digit_of` takes for one, and two digits are read as their octet.
 use mathlib.Core.Bool.{Bool, true, false, cond, ◌&&◌}
 use mathlib.Core.Path.{◌≡◌, refl, sym, ap, ◌∙◌}
-use Prim.Native.Nat.{ℕ, ◌+◌, ◌*◌, ◌/◌, ◌%◌, ◌<◌}
-use native.Mathlib.Omega.{arith}
+use Prim.Native.Nat.{ℕ, ◌/◌, ◌%◌, ◌<◌}
 use borrow.Author.Tests.{ltb-true, ltb-false, eqb-true, ne_eqb}
 use lib.Dec.{ltb, eqb}
 use lib.ListN.{get_or}
@@ -14,10 +13,9 @@ use Rattle.octets.proofs.LawsScanning.{all_at}
 use Rattle.octets.proofs.LawsTests.{by_test, both_told, impossible}
 use Rattle.lines.specs.declared.reader.Stage.{Stage}
 use Rattle.lines.specs.declared.reader.Stage.TheVariants.{Start, Half, Octet, Space, Wrong}
-use Rattle.lines.specs.declared.reader.LineReader.{LineReader}
 use Rattle.lines.specs.Line.{digits}
 use Rattle.lines.specs.Spelling.{space, capitals, Digit, lower, upper, Two}
-use Rattle.lines.specs.Reader.{digit_of, at, Keeping, keeping, with_octet, first, second, step_from, step}
+use Rattle.lines.specs.Reader.{digit_of, at, Keeping, keeping, with_octet, second, step_from, step}
 
 -- ---- digits
 
@@ -77,18 +75,15 @@ Open Octet = Unit {0}
 Open Space = Unit {0}
 Open Wrong = ⊥
 
-first_digit : {c v : ℕ} (r : LineReader) → Digit c v → first r c ≡ at r (Half v)
-first_digit r d = rw (digit_value d)
-
 no_space : {c v : ℕ} → Digit c v → eqb c space ≡ false
 unfolding is_between
 no_space {c} d = ne_eqb c space (λ e. impossible (cc (sym (digit_value d) ∙ ap digit_of e)))
 
 opens : {c v : ℕ} (p : Stage) → Open p → (h : Keeping) → Digit c v → step_from p h c ≡ keeping (at h.reader (Half v)) h.out
-opens Start o h d = ap (λ r. keeping r h.out) (first_digit h.reader d)
+opens Start o h d = search (rules, digit_value d)
 opens (Half v) o h d = absurd o
-opens Octet o h d = rw (no_space d, first_digit h.reader d)
-opens Space o h d = ap (λ r. keeping r h.out) (first_digit h.reader d)
+opens Octet o h d = search (rules, digit_value d, no_space d)
+opens Space o h d = search (rules, digit_value d)
 opens Wrong o h d = absurd o
 
 -- where an octet is kept, the stage before it does not matter
@@ -96,9 +91,7 @@ pub kept_at : (h : Keeping) (p : Stage) (x : ℕ) → with_octet (keeping (at h.
 kept_at h p x = refl
 
 closes : {c v : ℕ} (h : Keeping) (x : ℕ) → Digit c v → x / 16 < 16 → v ≡ x % 16 → second h (x / 16) c ≡ with_octet h x
-closes {v = v} h x d less e =
-    let whole : x / 16 % 16 * 16 + v ≡ x = omega arith in
-    rw (digit_value d, whole)
+closes h x d less e = search (rules, digit_value d)
 
 pub two_letters : {a b x : ℕ} (h : Keeping) → Open h.reader.stage → Two a b x → step (step h a) b ≡ with_octet h x
 two_letters {a} {b} {x} h o t =

@@ -1,11 +1,11 @@
 -- PROMISE: the line of octets is a text that spells them, and the end of the line. So what is printed is read back.
-use mathlib.Core.Path.{◌≡◌, refl, ap, ◌∙◌}
+use mathlib.Core.Path.{◌≡◌, refl}
 use mathlib.Core.List.{List, [], ◌∷◌, ◌++◌}
 use Prim.Native.Nat.{ℕ, suc, ◌/◌, ◌%◌, ◌<◌, ◌≤◌}
 use native.Mathlib.Omega.{arith}
-use borrow.Author.Tests.{ne_eqb}
 use lib.ListN.{length, drop, get_or}
 use Rattle.std.specs.Prelude.{Some}
+use Rattle.std.proofs.Common.{rules}
 use Rattle.octets.specs.Octets.{Octets as AreOctets}
 use Rattle.lines.specs.declared.reader.HexLine.TheVariants.{Octets}
 use Rattle.lines.specs.Line.{digits, separator, line_of}
@@ -23,7 +23,7 @@ two_digits : (x : ℕ) → x < 256 → Two (get_or digits (x / 16) 0) (get_or di
 two_digits x h = record { high = lower (omega arith) refl; low = lower (omega arith) refl }
 
 between : (n : ℕ) → separator (suc n) ≡ space
-between n = rw (ne_eqb (suc n) 0 (λ e. omega arith))
+between n = search rules
 
 pub line_back : (x : ℕ) (xs : List ℕ) → AreOctets (x ∷ xs) → Printed (x ∷ xs)
 unfolding line_of
@@ -36,7 +36,7 @@ line_back x (y ∷ ys) o =
     record {
       text = high ∷ low ∷ space ∷ rest.text;
       spells = spaced (two_digits x (o 0)) rest.spells;
-      whole = ap (λ c. high ∷ low ∷ c ∷ line_of (y ∷ ys)) (between (length ys)) ∙ ap (λ l. high ∷ low ∷ space ∷ l) rest.whole;
+      whole = search (rules, between (length ys), rest.whole);
     }
 
 pub line_read : (x : ℕ) (xs : List ℕ) (o : AreOctets (x ∷ xs)) (out : List ℕ) → length (x ∷ xs) ≤ length out

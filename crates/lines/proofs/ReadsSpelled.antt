@@ -7,8 +7,9 @@ use Prim.Native.Nat.{ℕ, suc, ◌≤◌, ◌<◌}
 use native.Mathlib.Omega.{arith}
 use native.Mathlib.Nat.{zero-add}
 use lib.ListN.{length, take, drop, get_or, take-append-drop, drop_of_length-le}
-use lib.Seq.{sets, length-take-le, drop-cons}
+use lib.Seq.{length-take-le, drop-cons}
 use Rattle.std.specs.Prelude.{Some}
+use Rattle.std.proofs.Common.{rules}
 use Rattle.octets.proofs.LawsWriting.{sets_front}
 use Rattle.lines.specs.declared.reader.Stage.TheVariants.{Space}
 use Rattle.lines.specs.declared.reader.HexLine.TheVariants.{Octets, More}
@@ -22,7 +23,7 @@ kept_open : (h : Keeping) (x : ℕ) → Open (with_octet h x).reader.stage
 kept_open h x = subst Open (sym (kept_stage h x)) tt
 
 over_space : (h : Keeping) (x : ℕ) → step_from (with_octet h x).reader.stage (with_octet h x) space ≡ keeping (at (with_octet h x).reader Space) (with_octet h x).out
-over_space h x = ap (λ p. step_from p (with_octet h x) space) (kept_stage h x)
+over_space h x = search (rules, kept_stage h x)
 
 -- the reader keeps what is spelled
 keeps : {text ys : List ℕ} {y : ℕ} → Spells text (y ∷ ys) → (h : Keeping) → Open h.reader.stage → reading h text ≡ foldl with_octet h (y ∷ ys)
@@ -39,9 +40,7 @@ from_fresh out x xs = refl
 
 front_kept : (xs out : List ℕ) → length xs ≤ length out
     → foldl with_octet (keeping (behind 0 false) out) xs ≡ keeping (behind (length xs) false) (xs ++ drop (length xs) out)
-front_kept xs out room =
-    let z = zero-add (length xs) in
-    all_kept xs 0 false out (rw z room) ∙ ap (λ k. keeping (behind k false) (sets out 0 xs)) z ∙ ap (keeping (behind (length xs) false)) (sets_front xs out room)
+front_kept xs out room = search (rules, zero-add (length xs), all_kept xs 0 false out (search rules), sets_front xs out room)
 
 pub reads_spelled : {text xs : List ℕ} → Spells text xs → (out : List ℕ) → length xs ≤ length out
     → read_line text out ≡ outcome (Some (Octets (length xs))) (xs ++ drop (length xs) out)
@@ -54,19 +53,19 @@ module _ (xs out : List ℕ) (most : length out < length xs) where
   size = length-take-le (length out) xs (omega arith)
 
   filled : foldl with_octet (keeping (behind 0 false) out) (take (length out) xs) ≡ keeping (behind (length out) false) (take (length out) xs)
-  filled =
-      front_kept (take (length out) xs) out (omega (arith, size))
-      ∙ ap (λ n. keeping (behind n false) (take (length out) xs ++ drop n out)) size
-      ∙ ap (keeping (behind (length out) false)) (ap (λ l. take (length out) xs ++ l) (drop_of_length-le out {i = length out} (omega arith)) ∙ append-nil _)
+  filled = search (rules, front_kept (take (length out) xs) out (search (rules, size)), size, drop_of_length-le out {i = length out} (search rules), append-nil (take (length out) xs))
 
   overflowed : foldl with_octet (keeping (behind 0 false) out) xs ≡ keeping (behind (length out) true) (take (length out) xs)
   overflowed =
       let kept-first = take (length out) xs in
-      let rest = drop (length out) xs in
-      ap (foldl with_octet (keeping (behind 0 false) out)) (sym (take-append-drop (length out) xs))
-      ∙ foldl-append with_octet (keeping (behind 0 false) out) kept-first rest ∙ ap (λ h. foldl with_octet h rest) filled
-      ∙ ap (foldl with_octet (keeping (behind (length out) false) kept-first)) (drop-cons xs (length out) 0 most)
-      ∙ more_told (get_or xs (length out) 0) (drop (suc (length out)) xs) (length out) false kept-first (omega (arith, size))
+      search (
+        rules,
+        foldl-append with_octet (keeping (behind 0 false) out) kept-first (drop (length out) xs),
+        take-append-drop (length out) xs,
+        filled,
+        drop-cons xs (length out) 0 most,
+        more_told (get_or xs (length out) 0) (drop (suc (length out)) xs) (length out) false kept-first (search (rules, size)),
+      )
 
 pub reads_first : {text xs : List ℕ} → Spells text xs → (out : List ℕ) → length out < length xs
     → read_line text out ≡ outcome (Some (More (length out))) (take (length out) xs)
