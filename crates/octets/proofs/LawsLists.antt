@@ -1,16 +1,16 @@
 -- Laws of lists that the code's places and parts ask for.
-use mathlib.Core.Path.{◌≡◌, refl, ap}
+use mathlib.Core.Path.{◌≡◌, ap}
 use mathlib.Core.List.{List, [], ◌∷◌, ◌++◌}
 use Prim.Native.Nat.{ℕ, zero, suc, ◌+◌, ◌-◌, ◌<◌, ◌≤◌}
 use native.Mathlib.Omega.{arith}
+use Rattle.std.proofs.lemmas.Grind.{common_steps}
 use native.Mathlib.Numerals.{add-one}
 use lib.ListN.{length, get_or, take, drop, length-drop}
-use lib.Seq.{drop-cons, get_or-drop, length-take-le, take_all}
+use lib.Seq.{drop-cons, take_all}
 use Rattle.octets.specs.Octets.{Octets}
 
 pub empty : (xs : List ℕ) → length xs ≡ 0 → xs ≡ []
-empty [] e = refl
-empty (x ∷ xs) e = absurd (omega arith)
+empty xs e = grind (arith, common_steps)
 
 -- one element of what is left of a list, with the code's i + 1
 pub drop_next : (xs : List ℕ) (i : ℕ) → i < length xs → drop i xs ≡ get_or xs i 0 ∷ drop (i + 1) xs
@@ -18,11 +18,11 @@ drop_next xs i h = rw (add-one, drop-cons xs i 0)
 
 -- what is left of a list, as the code's &xs[i..] cuts it
 pub take_rest : (xs : List ℕ) (i : ℕ) → take (length xs - i) (drop i xs) ≡ drop i xs
-take_rest xs i = take_all (length xs - i) (drop i xs) (omega (arith, length-drop i xs))
+take_rest xs i = grind (arith, common_steps, take_all)
 
 -- a part of a list, as the code's &xs[at..at + width] cuts it
 pub part_length : (xs : List ℕ) (at width : ℕ) → at + width ≤ length xs → length (take (at + width - at) (drop at xs)) ≡ width
-part_length xs at width h = omega (arith, length-take-le (at + width - at) (drop at xs), length-drop at xs)
+part_length xs at width h = grind (arith, common_steps)
 
 -- what is left of a list, by its first element
 pub front : (xs : List ℕ) (at x : ℕ) (ys : List ℕ) → drop at xs ≡ x ∷ ys → (get_or xs at 0 ≡ x) × (at < length xs) × (drop (at + 1) xs ≡ ys)
@@ -32,18 +32,14 @@ front xs at x ys e =
     (cc, h, cc)
 
 pub octets_drop : (n : ℕ) (xs : List ℕ) → Octets xs → Octets (drop n xs)
-octets_drop n xs o k = rw (get_or-drop n xs k 0) (o (n + k))
+octets_drop n xs o k = grind (arith, common_steps)
 
 pub octets_take : (n : ℕ) (xs : List ℕ) → Octets xs → Octets (take n xs)
-octets_take zero xs o k = omega arith
-octets_take (suc n) [] o k = omega arith
-octets_take (suc n) (x ∷ xs) o zero = o zero
-octets_take (suc n) (x ∷ xs) o (suc k) = octets_take n xs (λ j. o (suc j)) k
+octets_take n xs o k = grind (arith, common_steps)
 
 pub octets_more : (x : ℕ) (xs : List ℕ) → x < 256 → Octets xs → Octets (x ∷ xs)
 octets_more x xs h o zero = h
 octets_more x xs h o (suc k) = o k
 
 pub octets_append : (xs ys : List ℕ) → Octets xs → Octets ys → Octets (xs ++ ys)
-octets_append [] ys p q = q
-octets_append (x ∷ xs) ys p q = octets_more x (xs ++ ys) (p 0) (octets_append xs ys (λ k. p (suc k)) q)
+octets_append xs ys p q k = grind (arith, common_steps)

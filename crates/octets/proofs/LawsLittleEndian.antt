@@ -6,7 +6,7 @@ use native.Mathlib.Omega.{arith}
 use native.Mathlib.Nat.{pow-succ', pow-le-pow_right}
 use native.Mathlib.Numerals.{add-one}
 use lib.ListN.{length, take, drop, set, length-append}
-use Rattle.std.proofs.lemmas.List.{length-take, length_push}
+use Rattle.std.proofs.lemmas.List.{length-take, length_push, get_or-append-add}
 use lib.Seq.{sets, drop-drop}
 use Rattle.octets.specs.Octets.{Octets}
 use Rattle.octets.specs.LittleEndian.{le, le_at, le_octets}
@@ -30,8 +30,7 @@ le_bound (x ∷ xs) o =
 -- ---- reading the octets of a part from the last to the first
 
 octets_behind : (xs ys : List ℕ) → Octets (xs ++ ys) → Octets ys
-octets_behind [] ys o = o
-octets_behind (x ∷ xs) ys o = octets_behind xs ys (λ k. o (suc k))
+octets_behind xs ys o k = rw (get_or-append-add xs ys k 0) at (o (length xs + k))
 
 -- where an octet of at most four is left, at most three were read, so that one more does not wrap
 pub le_small : (s : List ℕ) (at width : ℕ) (xs read : List ℕ) (x : ℕ) → Octets s → width ≤ 4 → take width (drop at s) ≡ (xs ++ x ∷ []) ++ read

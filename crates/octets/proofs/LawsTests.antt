@@ -3,6 +3,7 @@ use mathlib.Core.Path.{◌≡◌, refl}
 use mathlib.Core.Bool.{Bool, true, false, cond, ◌&&◌}
 use Prim.Native.Nat.{ℕ}
 use native.Mathlib.Omega.{arith}
+use Rattle.std.proofs.Common.{rules}
 
 -- by cases on a test, each with its equation
 pub by_test : {P : Type 0} (t : Bool) → (t ≡ true → P) → (t ≡ false → P) → P
@@ -15,20 +16,17 @@ chosen P true yes-case no-case = yes-case refl
 chosen P false yes-case no-case = no-case refl
 
 pub and_l : (a b : Bool) → a && b ≡ true → a ≡ true
-and_l true b t = refl
-and_l false b t = t
+and_l a b t = search rules
 
 pub and_r : (a b : Bool) → a && b ≡ true → b ≡ true
-and_r true b t = t
-and_r false b t = cc
+and_r a b t = search rules
 
 pub both : (a b : Bool) → a ≡ true → b ≡ true → a && b ≡ true
-both true b p q = q
-both false b p q = p
+both a b p q = search rules
 
 -- the two at once, where the statement names them
 pub both_told : {a b : Bool} → a && b ≡ true → (a ≡ true) × (b ≡ true)
-both_told {a} {b} t = (and_l a b t, and_r a b t)
+both_told {a} {b} t = search rules
 
 -- two constructors are never equal: `impossible cc` closes a case whose equations join two
 pub impossible : {P : Type 0} → ◌≡◌ {A = ℕ} 0 1 → P
