@@ -9,7 +9,8 @@ use borrow.Author.Tests.{eq-eqb, ne_eqb, lt-ltb}
 use lib.ListN.{length, take, drop, length-drop}
 use lib.Seq.{length-take-le, take-length}
 use Rattle.std.specs.Option.{is_some}
-use Rattle.octets.proofs.LawsTests.{by_test}
+use Rattle.std.specs.Prelude.{Some, None}
+use Rattle.octets.proofs.LawsTests.{by_test, impossible}
 use Rattle.octets.specs.LittleEndian.{le_at}
 use Rattle.octets.specs.Finding.{before}
 use Rattle.device.specs.Ports.{ports_in, holds, distinct, port_place}
@@ -35,6 +36,14 @@ unfolding ports_in
 ports_none [] h = refl
 ports_none (x ∷ []) h = refl
 ports_none (x ∷ y ∷ xs) h = absurd (omega arith)
+
+-- ---- how many
+
+pub ports_length : (xs : List ℕ) → (2 * length (ports_in xs) ≤ length xs) × (length xs < 2 * length (ports_in xs) + 2)
+unfolding ports_in
+ports_length [] = (omega arith, omega arith)
+ports_length (x ∷ []) = (omega arith, omega arith)
+ports_length (x ∷ y ∷ xs) = let few = ports_length xs in (omega arith, omega arith)
 
 -- ---- looking for a port
 
@@ -66,6 +75,17 @@ unfolding port_place
 place_held v xs =
     let place = 2 * before v (ports_in xs) in
     by_test (holds v (ports_in xs)) (λ t. rw t) (λ t. rw t)
+
+-- the place that is found
+pub place_told : (v : ℕ) (xs : List ℕ) (at : ℕ) → port_place v xs ≡ Some at → (holds v (ports_in xs) ≡ true) × (at ≡ 2 * before v (ports_in xs))
+unfolding port_place
+place_told v xs at e =
+    by_test (holds v (ports_in xs)) (λ t. let some = rw t at e in (t, cc)) (λ t. let none = rw t at e in impossible cc)
+
+pub place_none : (v : ℕ) (xs : List ℕ) → port_place v xs ≡ None → holds v (ports_in xs) ≡ false
+unfolding port_place
+place_none v xs e =
+    by_test (holds v (ports_in xs)) (λ t. let some = rw t at e in impossible cc) (λ t. t)
 
 -- ---- no port twice
 

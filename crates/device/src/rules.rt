@@ -23,14 +23,14 @@ impl<const N: usize> Padded<N> {
     fn keeps_text(&self) -> bool
         ensures { result ≡ text_rule self.now.octets self.now.len }
     {
-        self.is_padded() && is_text(&self.octets[..self.len], N)
+        self.is_padded() && is_text(self.octets(), N)
     }
 
     #[tactic(auto, using(crate::proofs::LawsRules::padded_within), unfolding(crate::specs::Rules::ports_rule))]
     fn keeps_ports(&self) -> bool
         ensures { result ≡ ports_rule self.now.octets self.now.len }
     {
-        self.is_padded() && self.len % 2 == 0 && are_distinct(&self.octets[..self.len])
+        self.is_padded() && self.len % 2 == 0 && are_distinct(self.octets())
     }
 }
 

@@ -1,7 +1,7 @@
 // The state of the box, by value. An array that a count goes with is filled from its front and holds zeros past the count.
 ghost use Rattle.std.specs.Prelude.{[], ◌≡◌, ◌++◌, ◌+◌, ◌≤◌, length};
 ghost use Rattle.property.specs.Number.{power_state};
-ghost use Rattle.device.specs.State.{padded_from, defaults, fresh_link, fresh};
+ghost use Rattle.device.specs.State.{padded_from, octets_of, defaults, fresh_link, fresh};
 
 use octets::write_octets;
 use property::{Status, number_at, power_state, slot};
@@ -75,6 +75,14 @@ impl<const N: usize> Padded<N> {
         let next = write_octets(&mut octets, 0, first);
         let len = write_octets(&mut octets, next, second);
         Padded { octets, len }
+    }
+
+    // As many octets as the count says.
+    pub fn octets(&self) -> &[u8]
+        requires { self.now.len ≤ N }
+        ensures { result.now ≡ octets_of self.now }
+    {
+        &self.octets[..self.len]
     }
 
     pub(crate) fn empty() -> Padded<N>

@@ -1,19 +1,21 @@
 -- Laws of ports that are inserted and removed.
-use mathlib.Core.Path.{◌≡◌, refl, sym, ap, ◌∙◌}
+use mathlib.Core.Path.{◌≡◌, refl, sym, ap}
 use mathlib.Core.Bool.{Bool, true, false, not}
 use mathlib.Core.List.{List, [], ◌∷◌, ◌++◌}
-use Prim.Native.Nat.{ℕ, zero, suc, ◌+◌, ◌*◌, ◌%◌, ◌<◌, ◌≤◌}
+use Prim.Native.Nat.{ℕ, zero, suc, ◌+◌, ◌*◌, ◌%◌, ◌≤◌}
 use native.Mathlib.Omega.{arith}
-use borrow.Author.Tests.{ne_eqb, eqb-false, le-ltb, ltb-false}
+use borrow.Author.Tests.{ne_eqb, eqb-false, le-ltb, ltb-true, ltb-false}
 use lib.Dec.{eqb}
 use lib.ListN.{length, take, drop, length-append, length-take, length-drop}
 use Rattle.octets.specs.Finding.{before}
-use Rattle.octets.specs.LittleEndian.{le, le_at}
-use Rattle.octets.proofs.LawsTests.{by_test, and_l, and_r, both}
+use Rattle.octets.specs.LittleEndian.{le}
+use Rattle.octets.proofs.LawsTests.{by_test, and_l, and_r, both, impossible}
 use Rattle.device.specs.Ports.{ports_in, holds, distinct}
-use Rattle.device.proofs.LawsPorts.{ports_length, place_held, place_none}
-use Rattle.method.specs.Items.{without}
-use Rattle.method.proofs.LawsNumbers.{le_whole}
+use Rattle.device.proofs.LawsPorts.{ports_length}
+use Rattle.std.specs.Prelude.{Ok, Err}
+use Rattle.property.specs.declared.status.Status.{Status}
+use Rattle.property.specs.declared.status.Status.TheVariants.{ParseError}
+use Rattle.method.specs.Items.{port_in, without}
 
 -- ---- lists without a number
 
@@ -95,20 +97,18 @@ pub length_without : (at : ℕ) (xs : List ℕ) → at + 2 ≤ length xs → len
 unfolding without
 length_without at xs h = omega (arith, length-append (take at xs) (drop (at + 2) xs), length-take at xs, length-drop (at + 2) xs)
 
--- the port of a payload of two octets, looked for among those held
-module _ (p xs : List ℕ) (port at : ℕ) (two : length p ≡ 2) (read : port ≡ le_at p 0 2) (place : at ≡ 0 + 2 * before port (ports_in (drop 0 xs)))
-    (even : length xs % 2 ≡ 0) where
-  read_whole : port ≡ le p
-  read_whole = read ∙ le_whole p 2 two
+-- a port that is held stands in the octets, whole
+pub port_inside : (v : ℕ) (xs : List ℕ) → holds v (ports_in xs) ≡ true → 2 * before v (ports_in xs) + 2 ≤ length xs
+unfolding holds
+port_inside v xs h = omega (arith, ltb-true (before v (ports_in xs)) (length (ports_in xs)) h, ports_length xs)
 
-  pub port_place : at ≡ 2 * before (le p) (ports_in xs)
-  port_place = rw (← read_whole) (omega arith)
+-- the port of a payload, or that it holds none
+pub port_read : (p : List ℕ) (v : ℕ) → port_in p ≡ Ok v → (eqb (length p) 2 ≡ true) × (v ≡ le p)
+unfolding port_in
+port_read p v e =
+    by_test (eqb (length p) 2) (λ t. let read = rw t at e in (t, cc)) (λ t. let none = rw t at e in impossible cc)
 
-  pub port_inside : at < length xs → at + 2 ≤ length xs
-  port_inside h = omega arith
-
-  pub port_held : at < length xs → holds (le p) (ports_in xs) ≡ true
-  port_held h = rw (← read_whole) (place_held port xs 0 at place (omega arith) (omega arith))
-
-  pub port_missing : length xs ≤ at → holds (le p) (ports_in xs) ≡ false
-  port_missing h = rw (← read_whole) (place_none port xs 0 at place (omega arith) (omega arith))
+pub port_missing : (p : List ℕ) (s : Status) → port_in p ≡ Err s → (eqb (length p) 2 ≡ false) × (s ≡ ParseError)
+unfolding port_in
+port_missing p s e =
+    by_test (eqb (length p) 2) (λ t. let read = rw t at e in impossible cc) (λ t. let none = rw t at e in (t, cc))

@@ -13,7 +13,7 @@ use Rattle.octets.proofs.LawsTests.{by_test, impossible}
 use Rattle.property.specs.Number.{within}
 use Rattle.property.specs.declared.number.Number.{Number as Numeric}
 use Rattle.method.specs.Set.{value_in}
-use Rattle.method.specs.declared.set.PayloadNumber.TheVariants.{Good}
+use Rattle.std.specs.Prelude.{Ok}
 
 -- octets that are read whole
 pub le_whole : (p : List ℕ) (n : ℕ) → length p ≡ n → le_at p 0 n ≡ le p
@@ -21,7 +21,7 @@ unfolding le_at
 le_whole p n e = ap le (take_all n p (omega arith))
 
 -- a value that is read is the payload's number, in the number's width, and one that the number may have
-pub value_told : (n : Numeric) (p : List ℕ) (v : ℕ) → value_in n p ≡ Good v → (length p ≡ n.width) × (le p ≡ v) × (within n v ≡ true)
+pub value_told : (n : Numeric) (p : List ℕ) (v : ℕ) → value_in n p ≡ Ok v → (length p ≡ n.width) × (le p ≡ v) × (within n v ≡ true)
 unfolding value_in
 value_told n p v e =
     by_test (eqb (length p) n.width)
@@ -30,7 +30,7 @@ value_told n p v e =
     (λ u. let bad = rw (t, u) at e in impossible cc))
     (λ t. let bad = rw t at e in impossible cc)
 
-pub value_within : (n : Numeric) (p : List ℕ) (v : ℕ) → value_in n p ≡ Good v → within n v ≡ true
+pub value_within : (n : Numeric) (p : List ℕ) (v : ℕ) → value_in n p ≡ Ok v → within n v ≡ true
 value_within n p v e = (value_told n p v e).2
 
 -- where the range does not go over the top of the width, a value is at most its high end

@@ -15,7 +15,7 @@ use Rattle.octets.specs.Padding.{pad}
 use Rattle.octets.proofs.LawsPadding.{pad_length, pad_front, pad_zeros}
 use Rattle.octets.proofs.LawsScanning.{all_at, all_of}
 use Rattle.octets.proofs.LawsTests.{by_test, chosen, and_l, and_r, impossible}
-use Rattle.property.specs.Status.{RefusalStatus, invalid_argument, invalid_state, parse_error, nomem, already, item_not_found, invalid_command_for_prop}
+use Rattle.property.specs.Status.{status_number, RefusalStatus, invalid_argument, invalid_state, parse_error, nomem, already, item_not_found, invalid_command_for_prop}
 use Rattle.property.specs.Number.{number_at, power_state, within, slot_count}
 use Rattle.property.specs.declared.number.Number.{Number as Numeric}
 use Rattle.property.specs.declared.commands.Command.{Command}
@@ -31,27 +31,25 @@ use Rattle.device.specs.declared.state.Link.{Link}
 use Rattle.device.proofs.LawsPorts.{ports_length}
 use Rattle.device.proofs.LawsRules.{text_told, text_pad}
 use Rattle.device.proofs.StateRules.{LinkFacts, link_told, nine_numbers, ports_room, ports_even, ports_distinct}
-use Rattle.method.specs.declared.outcome.Outcome.{Outcome}
-use Rattle.method.specs.declared.outcome.Outcome.TheVariants.{Done, Refused}
+use Rattle.std.specs.Prelude.{Result, Ok, Err}
+use Rattle.property.specs.declared.status.Status.{Status}
+use Rattle.property.specs.declared.status.Status.TheVariants.{ParseError}
 use Rattle.method.specs.declared.outcome.Performed.{Performed}
-use Rattle.method.specs.declared.set.PayloadNumber.{PayloadNumber}
-use Rattle.method.specs.declared.set.PayloadNumber.TheVariants.{Good, Bad}
 use Rattle.method.specs.Perform.{get_with, perform}
-use Rattle.method.specs.Outcome.{done, refused, with_numbers, with_name, with_ports}
+use Rattle.method.specs.Outcome.{Outcome, done, with_numbers, with_name, with_ports}
 use Rattle.method.specs.Set.{value_in, conflicts, number_to, set_number, power_to, set_power, set_name, set_ports, set_kind}
 use Rattle.method.specs.Items.{insert_port, without, remove_port}
 use Rattle.method.proofs.StackAndInterface.{conflict_test}
 use Rattle.method.proofs.LawsNumbers.{value_within}
-use Rattle.method.proofs.LawsItems.{distinct_snoc, distinct_less, ports_snoc, ports_without, length_without}
+use Rattle.method.proofs.LawsItems.{distinct_snoc, distinct_less, ports_snoc, ports_without, length_without, port_inside}
 
-abbrev pub OutcomeStatus : Outcome → Type 0
-OutcomeStatus (Done e) = Unit {0}
-OutcomeStatus (Refused s) = RefusalStatus s
-
-pub record Kept (l : Link) (r : Performed) : Type 0 where
+pub record KeptLink (l : Link) (r : Performed) : Type 0 where
   pub facts : LinkFacts r.link
   pub same : r.link.status ≡ l.status
-  pub refusal : OutcomeStatus r.outcome
+
+abbrev pub Kept : Link → Outcome → Type 0
+Kept l (Ok r) = KeptLink l r
+Kept l (Err s) = RefusalStatus (status_number s)
 
 -- ---- what is put into its array keeps its rule
 
@@ -71,14 +69,14 @@ sized_with l xs few t =
 
 -- ---- numbers
 
-bad_refused : (n : Numeric) (p : List ℕ) (s : ℕ) → RefusalStatus n.outside → value_in n p ≡ Bad s → RefusalStatus s
+bad_refused : (n : Numeric) (p : List ℕ) (s : Status) → RefusalStatus (status_number n.outside) → value_in n p ≡ Err s → RefusalStatus (status_number s)
 unfolding value_in
 bad_refused n p s h e =
     by_test (eqb (length p) n.width)
     (λ t. by_test (within n (le p))
     (λ u. let e' = rw (t, u) at e in impossible cc)
     (λ u. let e' = rw (t, u) at e in let same : n.outside ≡ s = cc in rw (← same) h))
-    (λ t. let e' = rw t at e in let same : 9 ≡ s = cc in rw (← same) parse_error)
+    (λ t. let e' = rw t at e in let same : ParseError ≡ s = cc in rw (← same) parse_error)
 
 sized_numbers : (l : Link) (slot v : ℕ) → sized l ≡ true → sized (with_numbers l (set l.numbers slot v)) ≡ true
 unfolding sized
@@ -95,10 +93,7 @@ module _ (l : Link) (t : link_rule l ≡ true) where
   f = link_told l t
 
   kept_done : Kept l (done l)
-  kept_done = record { facts = f; same = refl; refusal = tt }
-
-  kept_refused : {s : ℕ} → RefusalStatus s → Kept l (refused l s)
-  kept_refused h = record { facts = f; same = refl; refusal = h }
+  kept_done = record { facts = f; same = refl }
 
   kept_name : (xs : List ℕ) → is_text max_name xs ≡ true → Kept l (done (with_name l (held_from xs)))
   kept_name xs h =
@@ -113,7 +108,6 @@ module _ (l : Link) (t : link_rule l ≡ true) where
           ports = f.ports;
         };
         same = refl;
-        refusal = tt;
       }
 
   kept_ports : (xs : List ℕ) → length xs ≤ max_held → length xs % 2 ≡ 0 → distinct (ports_in xs) ≡ true → Kept l (done (with_ports l (held_from xs)))
@@ -128,26 +122,25 @@ module _ (l : Link) (t : link_rule l ≡ true) where
           ports = ports_held_lem xs few even d;
         };
         same = refl;
-        refusal = tt;
       }
 
   name_kept : (p : List ℕ) → Kept l (set_name l p)
   unfolding set_name
   name_kept p =
       chosen (Kept l) (eqb (suc (before 0 p)) (length p))
-      (λ _. chosen (Kept l) (is_text max_name (take (before 0 p) p)) (λ h. kept_name (take (before 0 p) p) h) (λ _. kept_refused invalid_argument))
-      (λ _. kept_refused parse_error)
+      (λ _. chosen (Kept l) (is_text max_name (take (before 0 p) p)) (λ h. kept_name (take (before 0 p) p) h) (λ _. invalid_argument))
+      (λ _. parse_error)
 
   ports_kept : (p : List ℕ) → Kept l (set_ports l p)
   unfolding set_ports
   ports_kept p =
       chosen (Kept l) (eqb (length p % 2) 0)
       (λ e. chosen (Kept l) (distinct (ports_in p))
-      (λ d. chosen (Kept l) (ltb max_ports (length (ports_in p))) (λ _. kept_refused nomem)
+      (λ d. chosen (Kept l) (ltb max_ports (length (ports_in p))) (λ _. nomem)
       (λ h. let even = eqb-true (length p % 2) 0 e in
       kept_ports p (omega (arith, ports_length p, ltb-false max_ports (length (ports_in p)) h)) even d))
-      (λ _. kept_refused invalid_argument))
-      (λ _. kept_refused parse_error)
+      (λ _. invalid_argument))
+      (λ _. parse_error)
 
   -- the octets of the ports held: so many, an even number, distinct
   abbrev xs : List ℕ
@@ -158,14 +151,14 @@ module _ (l : Link) (t : link_rule l ≡ true) where
   insert_kept p =
       chosen (Kept l) (eqb (length p) 2)
       (λ e. let two = eqb-true (length p) 2 e in
-      chosen (Kept l) (holds (le p) (ports_in xs)) (λ _. kept_refused already)
+      chosen (Kept l) (holds (le p) (ports_in xs)) (λ _. already)
       (λ h. chosen (Kept l) (ltb (length (ports_in xs)) max_ports)
       (λ g. let long = length-append xs p in
       let few : length (xs ++ p) ≤ max_held = omega (arith, ports_length xs, ltb-true (length (ports_in xs)) max_ports g, ports_even l t) in
       let apart : distinct (ports_in (xs ++ p)) ≡ true = rw (ports_snoc xs p (ports_even l t) two) (distinct_snoc (le p) (ports_in xs) (ports_distinct l t) h) in
       kept_ports (xs ++ p) few (omega (arith, ports_even l t)) apart)
-      (λ _. kept_refused nomem)))
-      (λ _. kept_refused parse_error)
+      (λ _. nomem)))
+      (λ _. parse_error)
 
   remove_kept : (p : List ℕ) → Kept l (remove_port l p)
   unfolding remove_port
@@ -173,13 +166,13 @@ module _ (l : Link) (t : link_rule l ≡ true) where
       chosen (Kept l) (eqb (length p) 2)
       (λ e. chosen (Kept l) (holds (le p) (ports_in xs))
       (λ h. let i = before (le p) (ports_in xs) in
-      let inside : 2 * i + 2 ≤ length xs = unfold holds in omega (arith, ltb-true i (length (ports_in xs)) h, ports_length xs) in
+      let inside : 2 * i + 2 ≤ length xs = port_inside (le p) xs h in
       let long = length_without (2 * i) xs inside in
       let most = (ports_room l t).most in
       let count = (ports_room l t).counted in
       kept_ports (without (2 * i) xs) (omega arith) (omega (arith, ports_even l t)) (rw (ports_without i xs inside) (distinct_less i (ports_in xs) (ports_distinct l t))))
-      (λ _. kept_refused item_not_found))
-      (λ _. kept_refused parse_error)
+      (λ _. item_not_found))
+      (λ _. parse_error)
 
   -- one number changed to another of its range
   range_set : (slot v : ℕ) → slot < slot_count → within (number_at slot) v ≡ true → in_range (set l.numbers slot v) ≡ true
@@ -191,12 +184,12 @@ module _ (l : Link) (t : link_rule l ≡ true) where
       rw (same, get_or-set_same l.numbers slot v 0 (omega (arith, nine_numbers l t))) w)
       (λ e. rw (get_or-set_other l.numbers slot k v 0 (eqb-false k slot e)) (all_at slot_count (λ j. within (number_at j) (get_or l.numbers j 0)) f.range k low)))
 
-  number_kept : (slot : ℕ) (x : PayloadNumber) (p : List ℕ) → slot < slot_count → value_in (number_at slot) p ≡ x → Kept l (number_to l slot x)
+  number_kept : (slot : ℕ) (x : Result ℕ Status) (p : List ℕ) → slot < slot_count → value_in (number_at slot) p ≡ x → Kept l (number_to l slot x)
   unfolding number_to
-  number_kept slot (Bad s) p h e = kept_refused (bad_refused (number_at slot) p s (outside_refused (number_at slot) (numbers_keep slot h)) e)
-  number_kept slot (Good v) p h e =
+  number_kept slot (Err s) p h e = bad_refused (number_at slot) p s (outside_refused (number_at slot) (numbers_keep slot h)) e
+  number_kept slot (Ok v) p h e =
       let w = value_within (number_at slot) p v e in
-      chosen (Kept l) (conflicts l.numbers slot v) (λ _. kept_refused invalid_state)
+      chosen (Kept l) (conflicts l.numbers slot v) (λ _. invalid_state)
       (λ c. record {
         facts = record {
           sized = sized_numbers l slot v f.sized;
@@ -207,17 +200,16 @@ module _ (l : Link) (t : link_rule l ≡ true) where
           ports = f.ports;
         };
         same = refl;
-        refusal = tt;
       })
 
-  power_kept : (x : PayloadNumber) (p : List ℕ) → value_in power_state p ≡ x → Kept l (power_to l x)
+  power_kept : (x : Result ℕ Status) (p : List ℕ) → value_in power_state p ≡ x → Kept l (power_to l x)
   unfolding power_to
-  power_kept (Good x) p e = record { facts = f; same = refl; refusal = tt }
-  power_kept (Bad s) p e = kept_refused (bad_refused power_state p s (outside_refused power_state power_keeps) e)
+  power_kept (Ok x) p e = record { facts = f; same = refl }
+  power_kept (Err s) p e = bad_refused power_state p s (outside_refused power_state power_keeps) e
 
   set_kept : (k : Kind) (p : List ℕ) → ((slot : ℕ) → k ≡ Number slot → slot < slot_count) → Kept l (set_kind l k p)
   unfolding set_kind set_number set_power
-  set_kept (ReadOnly x) p h = kept_refused invalid_command_for_prop
+  set_kept (ReadOnly x) p h = invalid_command_for_prop
   set_kept Power p h = power_kept (value_in power_state p) p refl
   set_kept (Number slot) p h = number_kept slot (value_in (number_at slot) p) p (h slot refl) refl
   set_kept Name p h = name_kept p
@@ -225,7 +217,7 @@ module _ (l : Link) (t : link_rule l ≡ true) where
 
   pub perform_kept : (c : Command) (k : Kind) (p : List ℕ) → ((slot : ℕ) → k ≡ Number slot → slot < slot_count) → Kept l (perform l c k p)
   unfolding perform get_with
-  perform_kept Get k p h = chosen (Kept l) (eqb (length p) 0) (λ _. kept_done) (λ _. kept_refused parse_error)
+  perform_kept Get k p h = chosen (Kept l) (eqb (length p) 0) (λ _. kept_done) (λ _. parse_error)
   perform_kept Set k p h = set_kept k p h
   perform_kept Insert k p h = insert_kept p
   perform_kept Remove k p h = remove_kept p

@@ -2,38 +2,46 @@
 ghost use Rattle.std.specs.Prelude.{true, ◌≡◌, ◌+◌, ◌≤◌, length};
 ghost use Rattle.device.specs.Rules.{link_rule};
 ghost use Rattle.device.specs.State.{held_from, max_held};
-ghost use Rattle.method.specs.Items.{insert_port, without, remove_port};
+ghost use Rattle.method.specs.Items.{port_in, insert_port, without, remove_port};
 
-use crate::outcome::{Performed, done, refused};
+use crate::outcome::{Performed, done};
 use device::ports::find_port;
 use device::{Held, Link};
 use octets::read_le;
-use property::status;
+use property::Status;
 
-pub fn insert(link: Link, payload: &[u8]) -> Performed
+// The port that a payload holds, whole.
+#[tactic(auto, using(crate::proofs::LawsNumbers::le_whole), unfolding(crate::specs::Items::port_in))]
+fn read_port(payload: &[u8]) -> Result<u32, Status>
+    ensures { result ≡ port_in payload.now }
+{
+    if payload.len() != 2 {
+        return Err(Status::ParseError);
+    }
+    Ok(read_le(payload, 0, 2))
+}
+
+#[tactic(auto, unfolding(crate::specs::Items::insert_port, crate::specs::Items::port_in))]
+pub fn insert(link: Link, payload: &[u8]) -> Result<Performed, Status>
     requires { link_rule link ≡ true }
     ensures { result ≡ insert_port link payload.now }
 {
-    if payload.len() != 2 {
-        return refused(link, status::PARSE_ERROR);
+    let port = read_port(payload)?;
+    let held = link.ports.octets();
+    if find_port(held, port).is_some() {
+        return Err(Status::Already);
     }
-    let ports = link.ports;
-    let octets = ports.octets;
-    let len = ports.len;
-    let port = read_le(payload, 0, 2);
-    if find_port(&octets[..len], 0, port) < len {
-        return refused(link, status::ALREADY);
+    if 2 * Link::MAX_PORTS <= held.len() {
+        return Err(Status::NoMem);
     }
-    if 2 * Link::MAX_PORTS <= len {
-        return refused(link, status::NOMEM);
-    }
-    let mut changed = link;
-    let more = Held::of(&octets[..len], payload);
-    changed.ports = more;
-    done(changed)
+    Ok(done(Link {
+        ports: Held::of(held, payload),
+        ..link
+    }))
 }
 
 // All but the two octets at a place; what stood behind them moves up.
+#[tactic(auto, using(octets::proofs::LawsLists::take_rest), unfolding(crate::specs::Items::without))]
 fn close_gap(octets: &[u8], at: usize) -> Held
     requires { (at + 2 ≤ length octets.now) × (length octets.now ≤ max_held) }
     ensures { result ≡ held_from (without at octets.now) }
@@ -41,23 +49,16 @@ fn close_gap(octets: &[u8], at: usize) -> Held
     Held::of(&octets[..at], &octets[at + 2..])
 }
 
-pub fn remove(link: Link, payload: &[u8]) -> Performed
+#[tactic(auto, unfolding(crate::specs::Items::remove_port, crate::specs::Items::port_in))]
+pub fn remove(link: Link, payload: &[u8]) -> Result<Performed, Status>
     requires { link_rule link ≡ true }
     ensures { result ≡ remove_port link payload.now }
 {
-    if payload.len() != 2 {
-        return refused(link, status::PARSE_ERROR);
-    }
-    let ports = link.ports;
-    let octets = ports.octets;
-    let len = ports.len;
-    let port = read_le(payload, 0, 2);
-    let at = find_port(&octets[..len], 0, port);
-    if len <= at {
-        return refused(link, status::ITEM_NOT_FOUND);
-    }
-    let mut changed = link;
-    let less = close_gap(&octets[..len], at);
-    changed.ports = less;
-    done(changed)
+    let port = read_port(payload)?;
+    let held = link.ports.octets();
+    let at = find_port(held, port).ok_or(Status::ItemNotFound)?;
+    Ok(done(Link {
+        ports: close_gap(held, at),
+        ..link
+    }))
 }

@@ -6,6 +6,5 @@ mod outcome;
 mod perform;
 mod set;
 
-pub use outcome::{Outcome, Performed};
+pub use outcome::Performed;
 pub use perform::perform_on;
-pub use set::PayloadNumber;

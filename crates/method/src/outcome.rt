@@ -1,36 +1,22 @@
-// What a command on one property comes to.
-ghost use Rattle.std.specs.Prelude.{◌≡◌};
-ghost use Rattle.method.specs.Outcome.{done, refused};
+// What a command on one property comes to, where it is not refused.
+ghost use Rattle.std.specs.Prelude.{◌≡◌, Ok};
+ghost use Rattle.method.specs.Outcome.{done};
 
 use device::{Effect, Link};
 
-#[derive(Clone, Copy)]
-pub enum Outcome {
-    Done(Effect),
-    Refused(u8),
-}
-
-// What a command comes to, and the link that it leaves; a refusal leaves the link as it was.
-#[derive(Clone, Copy)]
+// What a command does to the whole box, and the link that it leaves.
+#[derive(Clone, Copy, PartialEq, Eq)]
 pub struct Performed {
-    pub outcome: Outcome,
+    pub effect: Effect,
     pub link: Link,
 }
 
+// A command that changes its link alone.
 pub fn done(link: Link) -> Performed
-    ensures { result ≡ done link }
+    ensures { Ok result ≡ done link }
 {
     Performed {
-        outcome: Outcome::Done(Effect::None),
-        link,
-    }
-}
-
-pub fn refused(link: Link, status: u8) -> Performed
-    ensures { result ≡ refused link status }
-{
-    Performed {
-        outcome: Outcome::Refused(status),
+        effect: Effect::None,
         link,
     }
 }

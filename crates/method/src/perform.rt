@@ -5,21 +5,29 @@ ghost use Rattle.device.specs.Rules.{link_rule};
 ghost use Rattle.method.specs.Perform.{get_with, perform};
 
 use crate::items::{insert, remove};
-use crate::outcome::{Performed, done, refused};
+use crate::outcome::{Performed, done};
 use crate::set::set;
 use device::Link;
-use property::{Command, Row, status};
+use property::{Command, Row, Status};
 
-fn get(link: Link, payload: &[u8]) -> Performed
+#[tactic(auto, unfolding(crate::specs::Perform::get_with))]
+fn get(link: Link, payload: &[u8]) -> Result<Performed, Status>
     ensures { result ≡ get_with link payload.now }
 {
-    if payload.len() != 0 {
-        return refused(link, status::PARSE_ERROR);
+    if !payload.is_empty() {
+        return Err(Status::ParseError);
     }
-    done(link)
+    Ok(done(link))
 }
 
-pub fn perform_on(link: Link, command: Command, row: Row, payload: &[u8]) -> Performed
+// A refusal leaves the link as it was.
+#[tactic(auto, unfolding(crate::specs::Perform::perform))]
+pub fn perform_on(
+    link: Link,
+    command: Command,
+    row: Row,
+    payload: &[u8],
+) -> Result<Performed, Status>
     requires { (row_rule row ≡ true) × (link_rule link ≡ true) }
     ensures { result ≡ perform link command row.kind payload.now }
 {

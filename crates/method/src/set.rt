@@ -5,110 +5,101 @@ ghost use Rattle.property.specs.Rule.{row_rule};
 ghost use Rattle.device.specs.Rules.{link_rule};
 ghost use Rattle.method.specs.Set.{value_in, set_number, set_power, set_name, set_ports, set_kind};
 
-use crate::outcome::{Outcome, Performed, done, refused};
+use crate::outcome::{Performed, done};
 use device::ports::are_distinct;
 use device::text::is_text;
 use device::{Effect, Held, Link, stack_keeps};
 use octets::{find_octet, read_le};
-use property::{Kind, Number, Row, is_within, number_at, power_state, status};
-
-#[derive(Clone, Copy)]
-pub enum PayloadNumber {
-    Good(u32),
-    // Refused with this status.
-    Bad(u8),
-}
+use property::{Kind, Number, Row, Status, is_within, number_at, power_state};
 
 // The number that a payload holds, whole.
-fn read_number(number: Number, payload: &[u8]) -> PayloadNumber
+#[tactic(auto, using(crate::proofs::LawsNumbers::le_whole), unfolding(crate::specs::Set::value_in))]
+fn read_number(number: Number, payload: &[u8]) -> Result<u32, Status>
     requires { number.width ≤ 4 }
     ensures { result ≡ value_in number payload.now }
 {
     if payload.len() != number.width {
-        return PayloadNumber::Bad(status::PARSE_ERROR);
+        return Err(Status::ParseError);
     }
     let value = read_le(payload, 0, number.width);
-    if is_within(number, value) {
-        return PayloadNumber::Good(value);
+    if !is_within(number, value) {
+        return Err(number.outside);
     }
-    PayloadNumber::Bad(number.outside)
+    Ok(value)
 }
 
 // Any of the nine numbers. Stack and interface are the only two that hang together: the numbers as they would be are tested.
-fn set_number(link: Link, slot: usize, payload: &[u8]) -> Performed
+#[tactic(auto, unfolding(crate::specs::Set::set_number, crate::specs::Set::number_to))]
+fn set_number(link: Link, slot: usize, payload: &[u8]) -> Result<Performed, Status>
     requires { (slot < slot_count) × (link_rule link ≡ true) }
     ensures { result ≡ set_number link slot payload.now }
 {
-    match read_number(number_at(slot), payload) {
-        PayloadNumber::Bad(status) => refused(link, status),
-        PayloadNumber::Good(value) => {
-            let mut numbers = link.numbers;
-            numbers[slot] = value;
-            if stack_keeps(numbers) {
-                let mut changed = link;
-                changed.numbers = numbers;
-                return done(changed);
-            }
-            refused(link, status::INVALID_STATE)
-        }
+    let value = read_number(number_at(slot), payload)?;
+    let mut numbers = link.numbers;
+    numbers[slot] = value;
+    if !stack_keeps(numbers) {
+        return Err(Status::InvalidState);
     }
+    Ok(done(Link { numbers, ..link }))
 }
 
 // The power state is the whole box's: the link stays as it is.
-fn set_power(link: Link, payload: &[u8]) -> Performed
+#[tactic(auto, using(crate::proofs::LawsNumbers::value_within, crate::proofs::LawsNumbers::within_most), unfolding(crate::specs::Set::set_power, crate::specs::Set::power_to))]
+fn set_power(link: Link, payload: &[u8]) -> Result<Performed, Status>
     ensures { result ≡ set_power link payload.now }
 {
-    match read_number(power_state(), payload) {
-        PayloadNumber::Bad(status) => refused(link, status),
-        PayloadNumber::Good(value) => Performed {
-            outcome: Outcome::Done(Effect::Powered(value as u8)),
-            link,
-        },
-    }
+    let value = read_number(power_state(), payload)?;
+    Ok(Performed {
+        effect: Effect::Powered(value as u8),
+        link,
+    })
 }
 
-fn set_name(link: Link, payload: &[u8]) -> Performed
+#[tactic(auto, using(octets::proofs::LawsFinding::before_most, device::proofs::LawsRules::text_told), unfolding(crate::specs::Set::set_name))]
+fn set_name(link: Link, payload: &[u8]) -> Result<Performed, Status>
     ensures { result ≡ set_name link payload.now }
 {
     let end = find_octet(payload, 0, 0);
     if end + 1 != payload.len() {
-        return refused(link, status::PARSE_ERROR);
+        return Err(Status::ParseError);
     }
-    if is_text(&payload[..end], Link::MAX_NAME) {
-        let mut changed = link;
-        let name = Held::of(&payload[..end], b"");
-        changed.name = name;
-        return done(changed);
+    let name = &payload[..end];
+    if !is_text(name, Link::MAX_NAME) {
+        return Err(Status::InvalidArgument);
     }
-    refused(link, status::INVALID_ARGUMENT)
+    Ok(done(Link {
+        name: Held::of(name, b""),
+        ..link
+    }))
 }
 
-fn set_ports(link: Link, payload: &[u8]) -> Performed
+#[tactic(auto, using(crate::proofs::LawsItems::ports_count), unfolding(crate::specs::Set::set_ports))]
+fn set_ports(link: Link, payload: &[u8]) -> Result<Performed, Status>
     ensures { result ≡ set_ports link payload.now }
 {
     if payload.len() % 2 != 0 {
-        return refused(link, status::PARSE_ERROR);
+        return Err(Status::ParseError);
     }
-    if are_distinct(payload) {
-        if 2 * Link::MAX_PORTS < payload.len() {
-            return refused(link, status::NOMEM);
-        }
-        let mut changed = link;
-        let ports = Held::of(payload, b"");
-        changed.ports = ports;
-        return done(changed);
+    if !are_distinct(payload) {
+        return Err(Status::InvalidArgument);
     }
-    refused(link, status::INVALID_ARGUMENT)
+    if 2 * Link::MAX_PORTS < payload.len() {
+        return Err(Status::NoMem);
+    }
+    Ok(done(Link {
+        ports: Held::of(payload, b""),
+        ..link
+    }))
 }
 
-pub fn set(link: Link, row: Row, payload: &[u8]) -> Performed
+#[tactic(auto, unfolding(crate::specs::Set::set_kind))]
+pub fn set(link: Link, row: Row, payload: &[u8]) -> Result<Performed, Status>
     requires { (row_rule row ≡ true) × (link_rule link ≡ true) }
     ensures { result ≡ set_kind link row.kind payload.now }
 {
-    let kind = row.kind;
-    match kind {
+    match row.kind {
         // Step 5 lets no SET of these through.
-        Kind::ReadOnly(_) => refused(link, status::INVALID_COMMAND_FOR_PROP),
+        Kind::ReadOnly(_) => Err(Status::InvalidCommandForProp),
         Kind::Power => set_power(link, payload),
         Kind::Number(slot) => set_number(link, slot, payload),
         Kind::Name => set_name(link, payload),

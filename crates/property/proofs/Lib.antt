@@ -1,3 +1,4 @@
 pub mod LawsStatus
 pub mod TableRule
 pub mod SignedRange
+pub mod RefusalNumbers

@@ -1,58 +1,45 @@
--- Each return is a branch of the definition; the ports held are even octets, so a place below their count is a port's.
-use mathlib.Core.Path.{sym}
+-- Each return is a branch of the definition; the ports held are even octets.
+use mathlib.Core.Path.{◌≡◌, sym, ◌∙◌}
 use native.Mathlib.Omega.{arith}
-use borrow.Author.Tests.{eq-eqb, ne_eqb}
-use Rattle.device.proofs.StateRules.{ports_room, ports_even}
+use Rattle.std.specs.Prelude.{Some, None}
+use Rattle.std.proofs.lemmas.Result.{err_from_is_err_and}
+use Rattle.property.specs.declared.status.Status.TheVariants.{ItemNotFound}
+use Rattle.device.proofs.StateRules.{ports_room}
+use Rattle.device.proofs.LawsPorts.{place_told, place_none}
 use Rattle.method.specs.Items.{remove_port}
-use Rattle.method.proofs.LawsItems.{port_held, port_missing, port_inside, port_place}
+use Rattle.method.proofs.LawsItems.{port_inside, port_read}
 use Rattle.method.proofs.items.remove.Goals as goal
 
-pub returns-then-payload-ne2 : goal.returns-then-payload-ne2
-unfolding remove_port
-returns-then-payload-ne2 c =
-    rw (ne_eqb _ _ c.if-payload-ne2.true, c.refused.ensures)
+pub octets-held-requires : goal.octets-held-requires
+octets-held-requires c =
+    (omega arith, (ports_room _ c.requires).most)
 
-pub slice_bounds-octets-end : goal.slice_bounds-octets-end
+pub returns-in_err-at : goal.returns-in_err-at
 unfolding remove_port
-slice_bounds-octets-end c =
-    (ports_room _ c.requires).inside
+returns-in_err-at c =
+    let read = port_read _ _ (sym c.read_port.ensures ∙ c.in_ok-port.was) in
+    let value = c.ok_or.ensures.value in
+    let none : c.find_port.result ≡ None = grind arith in
+    let missing = place_none _ _ (rw (c.octets-held.ensures, read.1) at (sym c.find_port.ensures ∙ none)) in
+    let refused : c.in_err-at.field-0.0 ≡ ItemNotFound = grind arith in
+    let last = err_from_is_err_and c.from_residual-in_err-at.result c.from_residual-in_err-at.ensures.1 in
+    rw (read.0, missing, last.1, last.2, refused)
 
-pub slice_bounds-find_port-end : goal.slice_bounds-find_port-end
-unfolding remove_port
-slice_bounds-find_port-end c =
-    sym (ports_room _ c.requires).counted
-
-pub returns-then-len-at : goal.returns-then-len-at
-unfolding remove_port
-returns-then-len-at c =
-    let two = c.if-payload-ne2.false in
-    let room = ports_room _ c.requires in
-    let no = port_missing _ _ _ _ two c.read_le-port.ensures c.find_port-at.ensures (ports_even _ c.requires) (omega arith) in
-    rw (eq-eqb _ _ two, no, c.refused-then-len-at.ensures)
-
-pub slice_bounds-octets-end-2 : goal.slice_bounds-octets-end-2
-unfolding remove_port
-slice_bounds-octets-end-2 c =
-    (ports_room _ c.requires).inside
-
-pub slice_bounds-close_gap-end : goal.slice_bounds-close_gap-end
-unfolding remove_port
-slice_bounds-close_gap-end c =
-    sym (ports_room _ c.requires).counted
-
-pub close_gap-less-requires : goal.close_gap-less-requires
-close_gap-less-requires c =
-    let two = c.if-payload-ne2.false in
-    let room = ports_room _ c.requires in
-    (port_inside _ _ _ _ two c.read_le-port.ensures c.find_port-at.ensures (ports_even _ c.requires) (omega arith), omega arith)
+pub close_gap-requires : goal.close_gap-requires
+close_gap-requires c =
+    let read = port_read _ _ (sym c.read_port.ensures ∙ c.in_ok-port.was) in
+    let value = c.ok_or.ensures.value in
+    let some : c.find_port.result ≡ Some c.in_ok-at.at = grind arith in
+    let told = place_told _ _ _ (rw (c.octets-held.ensures, read.1) at (sym c.find_port.ensures ∙ some)) in
+    let inside = port_inside _ _ told.0 in
+    let ports = ports_room _ c.requires in
+    rw c.octets-held.ensures (omega arith, omega arith)
 
 pub returns : goal.returns
 unfolding remove_port
 returns c =
-    let two = c.if-payload-ne2.false in
-    let read = c.read_le-port.ensures in
-    let even = ports_even _ c.requires in
-    let room = ports_room _ c.requires in
-    let yes = port_held _ _ _ _ two read c.find_port-at.ensures even (omega arith) in
-    let place = port_place _ _ _ _ two read c.find_port-at.ensures even in
-    rw (eq-eqb _ _ two, yes, ← place, c.done.ensures, c.close_gap-less.ensures)
+    let read = port_read _ _ (sym c.read_port.ensures ∙ c.in_ok-port.was) in
+    let value = c.ok_or.ensures.value in
+    let some : c.find_port.result ≡ Some c.in_ok-at.at = grind arith in
+    let told = place_told _ _ _ (rw (c.octets-held.ensures, read.1) at (sym c.find_port.ensures ∙ some)) in
+    rw (read.0, told.0, ← told.1, c.done.ensures, c.close_gap.ensures, c.octets-held.ensures)
