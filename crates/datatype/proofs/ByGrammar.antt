@@ -6,7 +6,7 @@ use mathlib.Core.Path.{◌≡◌, refl}
 use Prim.Native.Nat.{ℕ}
 use lib.Dec.{ltb}
 use lib.ListN.{length}
-use Rattle.packed.specs.declared.Cause.TheVariants.{None}
+use Rattle.std.specs.Prelude.{None}
 use Rattle.typestring.specs.Grammar.{Items, TypeString}
 use Rattle.typestring.specs.Parse.{Parsed, malformed, parsed, type_of}
 use Rattle.typestring.proofs.Grammatical.{sound, complete}

@@ -1,6 +1,6 @@
 -- Laws of where values stand: a value that stands in a part takes octets, and all it takes are the part's.
 use mathlib.Core.List.{List}
-use mathlib.Core.Path.{◌≡◌, refl}
+use mathlib.Core.Path.{◌≡◌, refl, ap}
 use Prim.Native.Nat.{ℕ, ◌+◌, ◌-◌, ◌<◌, ◌≤◌}
 use native.Mathlib.Omega.{arith}
 use borrow.Author.Tests.{ltb-true, ltb-false}
@@ -12,54 +12,69 @@ use Rattle.octets.specs.LittleEndian.{le_at}
 use Rattle.utf8.specs.Utf8.{is_utf8}
 use Rattle.packed.specs.Packed.{packed_at}
 use Rattle.packed.specs.declared.Packed.{Packed}
-use Rattle.packed.specs.declared.Packed.TheVariants as packed
+use Rattle.packed.specs.declared.Fault.{Fault}
+use Rattle.std.specs.Prelude.{Option, Some, None, Result, Ok, Err}
 use Rattle.packed.proofs.OneSpelling.{place_after}
 use Rattle.typestring.specs.declared.kind.Value.{Value}
 use Rattle.typestring.specs.declared.kind.Value.TheVariants as value
 use Rattle.typestring.specs.declared.kind.ItemKind.TheVariants as kind
 use Rattle.typestring.specs.Kind.{kind_of}
 use Rattle.typestring.proofs.LawsKinds.{letter_of}
-use Rattle.datatype.specs.declared.leaf.Span.TheVariants.{At}
-use Rattle.datatype.specs.Leaf.{fixed_at, bool_at, number_span, text_at, counted_at, span_of}
+use Rattle.datatype.specs.declared.leaf.Span.{Span}
+use Rattle.datatype.specs.declared.leaf.Misfit.{Misfit}
+use Rattle.datatype.specs.Leaf.{fixed_at, bool_at, number_span, text_at, counted_at, span_of, stands, unfit}
 
--- ---- a span that is one
+-- ---- one span, one misfit
 
-same : {a b c start size next : ℕ} → At a b c ≡ At start size next → (a ≡ start) × (b ≡ size) × (c ≡ next)
-same e = (cc, cc, cc)
+span : Result Span Misfit → Span
+span (Ok s) = s
+span (Err m) = record { start = 0; size = 0; next = 0 }
+
+pub same : (a b c start size next : ℕ) → stands a b c ≡ stands start size next → (a ≡ start) × (b ≡ size) × (c ≡ next)
+unfolding span
+same a b c start size next e = (ap (λ r. (span r).start) e, ap (λ r. (span r).size) e, ap (λ r. (span r).next) e)
+
+cause : {A : Type 0} → Result A Misfit → Option Fault
+cause (Ok s) = None
+cause (Err m) = m.cause
+
+pub one_cause : {A : Type 0} (v w : Option Fault) → unfit {A = A} v ≡ unfit w → v ≡ w
+unfolding cause
+one_cause v w e = ap cause e
 
 module _ (part : List ℕ) (from start size next : ℕ) where
   abbrev Fits : Type 0
   Fits = (from < next) × (next ≤ length part) × (from ≤ start) × (start + size ≤ next)
 
-  fixed_fits : (width : ℕ) → from ≤ length part → 0 < width → fixed_at width part from ≡ At start size next → Fits
+  fixed_fits : (width : ℕ) → from ≤ length part → 0 < width → fixed_at width part from ≡ stands start size next → Fits
   unfolding fixed_at
   fixed_fits width h w e =
       by_test (ltb (length part - from) width) (λ t. impossible (cc (rw t at e)))
-      (λ t. let s = same (rw t at e) in omega (arith, ltb-false (length part - from) width t))
+      (λ t. let s = same _ _ _ _ _ _ (rw t at e) in omega (arith, ltb-false (length part - from) width t))
 
-  number_fits : (r : Packed) → packed_at part from ≡ r → number_span from r ≡ At start size next → Fits
+  number_fits : (r : Result Packed Fault) → packed_at part from ≡ r → number_span from r ≡ stands start size next → Fits
   unfolding number_span
-  number_fits (packed.Unreadable f) r e = impossible cc
-  number_fits (packed.Number n to) r e = let s = same e in omega (arith, place_after part from n to r)
+  number_fits (Err f) r e = impossible cc
+  number_fits (Ok p) r e = let s = same _ _ _ _ _ _ e in omega (arith, place_after part from p.number p.next r)
 
-  text_fits : (n : ℕ) → text_at n part from ≡ At start size next → Fits
+  text_fits : (n : ℕ) → text_at n part from ≡ stands start size next → Fits
   unfolding text_at
   text_fits n e =
       by_test (ltb (from + n) (length part))
       (λ t. by_test (is_utf8 (take n (drop from part)))
-      (λ u. let s = same (rw (t, u) at e) in omega (arith, ltb-true (from + n) (length part) t)) (λ u. impossible (cc (rw (t, u) at e))))
+      (λ u. let s = same _ _ _ _ _ _ (rw (t, u) at e) in omega (arith, ltb-true (from + n) (length part) t)) (λ u. impossible (cc (rw (t, u) at e))))
       (λ t. impossible (cc (rw t at e)))
 
-  pub counted_fits : from ≤ length part → counted_at part from ≡ At start size next → (start ≡ from + 2) × (next ≡ start + size) × (next ≤ length part)
+  pub counted_fits : from ≤ length part → counted_at part from ≡ stands start size next → (start ≡ from + 2) × (next ≡ start + size) × (next ≤ length part)
   unfolding counted_at
   counted_fits h e =
       by_test (ltb (length part - from) 2) (λ t. impossible (cc (rw t at e)))
       (λ t. by_test (ltb (length part - (from + 2)) (le_at part from 2)) (λ t'. impossible (cc (rw (t, t') at e)))
-      (λ t'. let s = same (rw (t, t') at e) in
+      (λ t'. let s = same _ _ _ _ _ _ (rw (t, t') at e) in
       omega (arith, ltb-false (length part - from) 2 t, ltb-false (length part - (from + 2)) (le_at part from 2) t')))
 
-pub span_fits : (v : Value) (part : List ℕ) (from start size next : ℕ) → from ≤ length part → (letter : ℕ) → kind_of letter ≡ kind.Value v
-    → span_of v part from ≡ At start size next → (from < next) × (next ≤ length part) × (from ≤ start) × (start + size ≤ next)
+pub span_fits : (v : Value) (part : List ℕ) (from start size next : ℕ) → from ≤ length part → (letter : ℕ) → kind_of letter ≡ Some (kind.Value v)
+    → span_of v part from ≡ stands start size next → (from < next) × (next ≤ length part) × (from ≤ start) × (start + size ≤ next)
 unfolding span_of bool_at
 span_fits value.Bool part from start size next h letter k e =
     by_test (leb (get_or part from 0) 1) (λ t. fixed_fits part from start size next 1 h (omega arith) (rw t at e)) (λ t. impossible (cc (rw t at e)))

@@ -1,47 +1,43 @@
 -- Laws of the reader: what reading an item answers, by the kind of its letter, and what reading on after an item answers.
-use types.Run.{OneOf, miss}
-use denote.Enum.Declared.{tag_of}
 use mathlib.Core.Path.{◌≡◌, refl, sym, ap, ◌∙◌}
 use mathlib.Core.Bool.{true, false}
-use mathlib.Core.List.{List, [], ◌∷◌}
+use mathlib.Core.List.{List, []}
 use Prim.Native.Nat.{ℕ, ◌+◌, ◌-◌, ◌≤◌, ◌<◌}
 use native.Mathlib.Omega.{arith}
-use native.Mathlib.Nat.{sub-zero}
 use lib.ListN.{length, get_or, take, drop}
 use lib.Seq.{length-take-le, drop-drop}
 use Rattle.octets.proofs.LawsLists.{front}
-use Rattle.packed.specs.declared.Cause.{Cause}
-use Rattle.typestring.specs.declared.kind.ItemKind.{ItemKind}
+use Rattle.octets.proofs.LawsTests.{impossible}
 use Rattle.typestring.specs.declared.kind.ItemKind.TheVariants as kind
 use Rattle.typestring.specs.declared.kind.Value.{Value}
 use Rattle.typestring.specs.Kind.{kind_of}
 use Rattle.typestring.specs.Grammar.{Item, Items, value, rest, struct, array, print_item}
 use Rattle.typestring.specs.Parse.{ends_part}
 use Rattle.typestring.specs.Calls.{PartFrom, ItemFrom, EndsItem}
-use Rattle.typestring.specs.contracts.kind.ItemKind.{the_type as kind-type}
 use Rattle.typestring.proofs.LawsPlaces.{kind_is, item_first, item_place, part_ended, part_item, struct_inner, array_inner, is_value, is_struct, is_array}
 use Rattle.datatype.specs.Answer.{max_payload}
 use Rattle.datatype.specs.declared.leaf.Span.{Span}
-use Rattle.datatype.specs.declared.leaf.Span.TheVariants as span
+use Rattle.datatype.specs.declared.leaf.Misfit.{Misfit}
+use Rattle.packed.specs.declared.Fault.{Fault}
+use Rattle.std.specs.Prelude.{Option, Some, Result, Ok}
 use Rattle.datatype.specs.declared.list.Read.{Read}
-use Rattle.datatype.specs.declared.list.Read.TheVariants as read
-use Rattle.datatype.specs.Leaf.{span_of, counted_at, rest_of}
+use Rattle.datatype.specs.Leaf.{span_of, counted_at, rest_of, stands, unfit}
 use Rattle.datatype.specs.Reading.{Leaf, upto, and_then, leaf_reads, contents, item_reads, part_reads}
-use Rattle.datatype.specs.Calls.{Room, Small, Did, filling_to, ReadsPart, ReadsItem}
+use Rattle.datatype.specs.Calls.{Room, Small, Did, reached, ReadsPart, ReadsItem}
 use Rattle.datatype.proofs.LawsLeaves.{span_fits, counted_fits}
 use Rattle.datatype.proofs.LawsTook.{Took, element_took, item_took, array_more}
 use Rattle.datatype.proofs.LawsReading.{elements_done}
-use Rattle.datatype.proofs.LawsDid.{Finishes, did_upto, did_none, did_then, did_not, did_filling}
+use Rattle.datatype.proofs.LawsDid.{Finishes, did_upto, did_none, did_then, did_not, filled_to, did_filling}
 
 -- ---- an item by the kind of its letter
 
-module _ (types : List ℕ) (at depth : ℕ) (part : List ℕ) (from : ℕ) (l l' : List ℕ) (k : ℕ) (r : Read) where
-  pub reads_value : (v : Value) → kind_of (get_or types at 0) ≡ kind.Value v → Did (leaf_reads (get_or types at 0) (span_of v part from)) l l' k r
-      → ReadsItem (drop at types) depth part from l l' k r
+module _ (types : List ℕ) (at depth : ℕ) (part : List ℕ) (from : ℕ) (l l' : List ℕ) (k : ℕ) (r : Result Read Misfit) where
+  pub reads_value : (v : Value) (s : Result Span Misfit) → kind_of (get_or types at 0) ≡ Some (kind.Value v) → s ≡ span_of v part from
+      → Did (leaf_reads (get_or types at 0) s) l l' k r → ReadsItem (drop at types) depth part from l l' k r
   unfolding item_reads
-  reads_value v e d i w = rw (is_value types at depth i v w e) d
+  reads_value v s e f d i w = rw (is_value types at depth i v w e, ← f) d
 
-  reads_struct : kind_of (get_or types at 0) ≡ kind.Struct
+  reads_struct : kind_of (get_or types at 0) ≡ Some kind.Struct
       → ((t : Items) → PartFrom (drop (at + 2) types) (depth - 1) t
       → Did (contents (counted_at part from) (λ start stop. part_reads t (take stop part) start)) l l' k r)
       → ReadsItem (drop at types) depth part from l l' k r
@@ -50,63 +46,58 @@ module _ (types : List ℕ) (at depth : ℕ) (part : List ℕ) (from : ℕ) (l l
       let s = is_struct types at depth i w e in
       rw s.1 (d s.0 (struct_inner types at depth s.0 (rw s.1 at w)).2)
 
-  pub reads_array : kind_of (get_or types at 0) ≡ kind.Array
+  pub reads_array : kind_of (get_or types at 0) ≡ Some kind.Array
       → ((t : Items) → ItemFrom (drop at types) depth (array t) → Did (item_reads (array t) part from) l l' k r)
       → ReadsItem (drop at types) depth part from l l' k r
   reads_array e d i w = let s = is_array types at depth i w e in rw s.1 (d s.0 (rw s.1 at w))
 
 -- a value's span is within the payload
-pub span_small : (v : Value) (part : List ℕ) (from letter : ℕ) (s : Span) → from ≤ length part → length part ≤ max_payload → kind_of letter ≡ kind.Value v
-    → s ≡ span_of v part from → Small s
-span_small v part from letter (span.Misfit w) room short e f = tt
-span_small v part from letter (span.At start size next) room short e f =
-    let g = span_fits v part from start size next room letter e (sym f) in (omega arith, omega arith)
+pub span_small : (v : Value) (part : List ℕ) (from letter : ℕ) (s : Span) → from ≤ length part → length part ≤ max_payload → kind_of letter ≡ Some (kind.Value v)
+    → Ok s ≡ span_of v part from → Small s
+span_small v part from letter s room short e f =
+    let g = span_fits v part from s.start s.size s.next room letter e (sym f) in (omega arith, omega arith)
 
--- the `_` of the reader's `match` leaves D and no other item
-pub reads_rest : (types : List ℕ) (at depth : ℕ) (part : List ℕ) (from : ℕ) (l l' : List ℕ) (n : ℕ) (r : Read) (k : ItemKind) → k ≡ kind_of (get_or types at 0)
-    → OneOf (1 ∷ 4 ∷ []) (tag_of kind-type k) → Did (leaf_reads (get_or types at 0) (rest_of part from)) l l' n r
+-- D
+pub reads_rest : (types : List ℕ) (at depth : ℕ) (part : List ℕ) (from : ℕ) (l l' : List ℕ) (n : ℕ) (r : Result Read Misfit)
+    → kind_of (get_or types at 0) ≡ Some kind.Rest → Did (leaf_reads (get_or types at 0) (Ok (rest_of part from))) l l' n r
     → ReadsItem (drop at types) depth part from l l' n r
 unfolding item_reads print_item
-reads_rest types at depth part from l l' n r k e tag d i w = go i w (rw (e ∙ (item_first types at depth i w).0) at tag)
+reads_rest types at depth part from l l' n r e d i w = go i w (sym (item_first types at depth i w).0 ∙ e)
   where
-    go : (i : Item) → ItemFrom (drop at types) depth i → OneOf (1 ∷ 4 ∷ []) (tag_of kind-type (kind_is i)) → Did (item_reads i part from) l l' n r
-    go (value c v) w o = absurd (miss (1 ∷ 4 ∷ []) 0 tt o)
-    go rest w o = rw (← (front types at 68 w.behind w.printed).0) d
-    go (struct t) w o = absurd (miss (1 ∷ 4 ∷ []) 2 tt o)
-    go (array t) w o = absurd (miss (1 ∷ 4 ∷ []) 3 tt o)
+    go : (i : Item) → ItemFrom (drop at types) depth i → Some (kind_is i) ≡ Some kind.Rest → Did (item_reads i part from) l l' n r
+    go (value c v) w f = impossible cc
+    go rest w f = rw (← (front types at 68 w.behind w.printed).0) d
+    go (struct t) w f = impossible cc
+    go (array t) w f = impossible cc
 
 -- ---- t and its contents
 
-pub struct_at : (types : List ℕ) (at depth : ℕ) → ((i : Item) × ItemFrom (drop at types) depth i) → kind_of (get_or types at 0) ≡ kind.Struct
+pub struct_at : (types : List ℕ) (at depth : ℕ) → ((i : Item) × ItemFrom (drop at types) depth i) → kind_of (get_or types at 0) ≡ Some kind.Struct
     → (0 < depth) × (at + 2 ≤ length types) × ((t : Items) × PartFrom (drop (at + 2) types) (depth - 1) t)
 struct_at types at depth (i, w) e =
     let s = is_struct types at depth i w e in
     let inner = struct_inner types at depth s.0 (rw s.1 at w) in
     (inner.0, inner.1, (s.0, inner.2))
 
--- the code's part of a part, `[0..next]`
-inner_is : (part : List ℕ) (next : ℕ) → take (next - 0) part ≡ take next part
-inner_is part next = ap (λ n. take n part) (sub-zero next)
-
 pub struct_room : (types part : List ℕ) (at from leaves start size next : ℕ) → Room types part at from leaves → at + 2 ≤ length types
-    → counted_at part from ≡ span.At start size next → Room types (take (next - 0) part) (at + 2) start leaves
+    → counted_at part from ≡ stands start size next → Room types (take next part) (at + 2) start leaves
 struct_room types part at from leaves start size next room two e =
     let f = counted_fits part from start size next room.within e in
-    let all : length (take (next - 0) part) ≡ next = ap length (inner_is part next) ∙ length-take-le next part f.2 in
+    let all : length (take next part) ≡ next = length-take-le next part f.2 in
     record { few = room.few; placed = two; short = omega (arith, room.short); within = omega arith; counted = omega (arith, room.counted) }
 
-module _ (types : List ℕ) (at depth : ℕ) (part : List ℕ) (from : ℕ) (l l' : List ℕ) (k : ℕ) (e : kind_of (get_or types at 0) ≡ kind.Struct) where
-  pub struct_misfit : (w : Cause) → counted_at part from ≡ span.Misfit w → ReadsItem (drop at types) depth part from l l' k (read.Misfit w)
+module _ (types : List ℕ) (at depth : ℕ) (part : List ℕ) (from : ℕ) (l l' : List ℕ) (k : ℕ) (e : kind_of (get_or types at 0) ≡ Some kind.Struct) where
+  pub struct_misfit : (w : Option Fault) → counted_at part from ≡ unfit w → ReadsItem (drop at types) depth part from l l' k (unfit w)
   unfolding contents
-  struct_misfit w f = reads_struct types at depth part from l l' k (read.Misfit w) e (λ t u. rw f refl)
+  struct_misfit w f = reads_struct types at depth part from l l' k (unfit w) e (λ t u. rw f refl)
 
-  pub struct_reads : (start size next : ℕ) (r : Read) → counted_at part from ≡ span.At start size next
-      → ReadsPart (drop (at + 2) types) (depth - 1) (take (next - 0) part) start l l' k r
-      → ReadsItem (drop at types) depth part from l l' k (filling_to next r)
+  pub struct_reads : (start size next : ℕ) (r : Result Read Misfit) → counted_at part from ≡ stands start size next
+      → ReadsPart (drop (at + 2) types) (depth - 1) (take next part) start l l' k r
+      → ReadsItem (drop at types) depth part from l l' k (filled_to next r)
   unfolding contents
   struct_reads start size next r f inner =
-      reads_struct types at depth part from l l' k (filling_to next r) e
-      (λ t w. rw f (did_filling next (part_reads t (take next part) start) l l' k r (rw (inner_is part next) at (inner t w))))
+      reads_struct types at depth part from l l' k (filled_to next r) e
+      (λ t w. rw f (did_filling next (part_reads t (take next part) start) l l' k r (inner t w)))
 
 -- ---- A and its elements
 
@@ -118,11 +109,11 @@ array_done : (t : Items) (part : List ℕ) (from : ℕ) → length part ≤ from
 unfolding item_reads
 array_done t part from h = elements_done (λ p. part_reads t part p) (length part - from) from (length part) h
 
-pub array_at : (types : List ℕ) (at depth : ℕ) → ((i : Item) × ItemFrom (drop at types) depth i) → kind_of (get_or types at 0) ≡ kind.Array
+pub array_at : (types : List ℕ) (at depth : ℕ) → ((i : Item) × ItemFrom (drop at types) depth i) → kind_of (get_or types at 0) ≡ Some kind.Array
     → (t : Items) × ItemFrom (drop at types) depth (array t)
 array_at types at depth (i, w) e = let s = is_array types at depth i w e in (s.0, rw s.1 at w)
 
-module _ (types part : List ℕ) (at depth next count : ℕ) (l l₁ : List ℕ) (r₁ : Read) (t : Items) (w : ItemFrom (drop at types) depth (array t))
+module _ (types part : List ℕ) (at depth next count : ℕ) (l l₁ : List ℕ) (r₁ : Result Read Misfit) (t : Items) (w : ItemFrom (drop at types) depth (array t))
     (more_left : next < length part) (element : ReadsPart (drop (at + 2) types) (depth - 1) part next l l₁ count r₁) where
   more_is : item_reads (array t) part next ≡ and_then (part_reads t part next) (λ p. item_reads (array t) part p)
   more_is = let inner = array_inner types at depth t w in array_more t (depth - 1) part next inner.3 inner.4 more_left
@@ -130,12 +121,12 @@ module _ (types part : List ℕ) (at depth next count : ℕ) (l l₁ : List ℕ)
   this : Did (part_reads t part next) l l₁ count r₁
   this = element t (array_inner types at depth t w).2
 
-  pub element_misfit : (l₂ : List ℕ) (v : Cause) → r₁ ≡ read.Misfit v → Did (item_reads (array t) part next) l l₂ count (read.Misfit v)
+  pub element_misfit : (l₂ : List ℕ) (v : Option Fault) → r₁ ≡ unfit v → Did (item_reads (array t) part next) l l₂ count (unfit v)
   element_misfit l₂ v e =
       rw more_is
       (did_not (part_reads t part next) (λ p. item_reads (array t) part p) l l₁ l₂ count v (rw e at this))
 
-  module _ (q n : ℕ) (e : r₁ ≡ read.Upto q n) where
+  module _ (q n : ℕ) (e : r₁ ≡ reached q n) where
     pub element_room : count ≤ next + at → (next < q) × (q ≤ length part) × (n ≤ q + at)
     element_room counted =
         let d = did_upto (part_reads t part next) l l₁ count q n (rw e at this) in
@@ -148,25 +139,25 @@ module _ (types part : List ℕ) (at depth next count : ℕ) (l l₁ : List ℕ)
         (did_then (part_reads t part next) (λ p. item_reads (array t) part p) l l₁ l₂ count q n r (rw e at this) d)
 
 pub elements_end : (t : Items) (part : List ℕ) (from : ℕ) (l : List ℕ) (k : ℕ) → length part ≤ from
-    → Did (item_reads (array t) part from) l l k (read.Upto from k)
+    → Did (item_reads (array t) part from) l l k (reached from k)
 elements_end t part from l k h = rw (array_done t part from h) (did_none l from k)
 
 -- ---- a sequence, item by item
 
 pub sequence_ends : (s : List ℕ) (depth : ℕ) (part : List ℕ) (from : ℕ) (l : List ℕ) (k : ℕ) (t : Items) → ends_part s ≡ true → PartFrom s depth t
-    → Did (part_reads t part from) l l k (read.Upto from k)
+    → Did (part_reads t part from) l l k (reached from k)
 unfolding part_reads
 sequence_ends s depth part from l k t shut w = rw (part_ended s depth t shut w) (did_none l from k)
 
-module _ (types part : List ℕ) (place depth next count : ℕ) (l l₁ : List ℕ) (r₁ : Read) (t : Items) (w : PartFrom (drop place types) depth t)
+module _ (types part : List ℕ) (place depth next count : ℕ) (l l₁ : List ℕ) (r₁ : Result Read Misfit) (t : Items) (w : PartFrom (drop place types) depth t)
     (going : ends_part (drop place types) ≡ false) (item : ReadsItem (drop place types) depth part next l l₁ count r₁) where
-  pub turn_misfit : (l₂ : List ℕ) (v : Cause) → r₁ ≡ read.Misfit v → Did (part_reads t part next) l l₂ count (read.Misfit v)
+  pub turn_misfit : (l₂ : List ℕ) (v : Option Fault) → r₁ ≡ unfit v → Did (part_reads t part next) l l₂ count (unfit v)
   unfolding part_reads
   turn_misfit l₂ v e =
       let x = part_item (drop place types) depth t going w in
       rw x.2 (did_not (item_reads x.0 part next) (λ p. part_reads x.1 part p) l l₁ l₂ count v (rw e at (item x.0 x.3)))
 
-  module _ (q n : ℕ) (e : r₁ ≡ read.Upto q n) (place' : ℕ) (ends : EndsItem (drop place types) place place') where
+  module _ (q n : ℕ) (e : r₁ ≡ reached q n) (place' : ℕ) (ends : EndsItem (drop place types) place place') where
     pub turn_room : Room types part place next count → (place < place') × Room types part place' q n
     turn_room room =
         let x = part_item (drop place types) depth t going w in

@@ -8,7 +8,9 @@ use lib.Dec.{eqb, ltb}
 use lib.ListN.{length}
 use Rattle.octets.proofs.LawsTests.{by_test, impossible}
 use Rattle.datatype.specs.declared.leaf.Span.{Span}
-use Rattle.datatype.specs.declared.leaf.Span.TheVariants as span
+use Rattle.datatype.specs.declared.leaf.Misfit.{Misfit}
+use Rattle.datatype.specs.Leaf.{stands}
+use Rattle.std.specs.Prelude.{Result, Ok, Err}
 use Rattle.datatype.specs.Reading.{Leaf, leaf_of, Reading, misfit, upto, prefixed, and_then, filling, leaf_reads, contents, elements}
 
 -- ---- readings taken apart
@@ -33,26 +35,26 @@ filling_fit stop (upto q ms) p ls e =
     (λ t. let e' = rw t at e in let same : q ≡ p = cc in (e', sym same ∙ eqb-true q stop t))
     (λ t. impossible (cc (rw t at e)))
 
-pub leaf_fit : (c : ℕ) (s : Span) (p : ℕ) (ls : List Leaf) → leaf_reads c s ≡ upto p ls
-    → (start : ℕ) × (size : ℕ) × (s ≡ span.At start size p) × (ls ≡ leaf_of c start size ∷ [])
+pub leaf_fit : (c : ℕ) (s : Result Span Misfit) (p : ℕ) (ls : List Leaf) → leaf_reads c s ≡ upto p ls
+    → (start : ℕ) × (size : ℕ) × (s ≡ stands start size p) × (ls ≡ leaf_of c start size ∷ [])
 unfolding leaf_reads
-leaf_fit c (span.Misfit w) p ls e = impossible cc
-leaf_fit c (span.At start size next) p ls e = (start, size, cc, cc)
+leaf_fit c (Err m) p ls e = impossible cc
+leaf_fit c (Ok s) p ls e = let next : s.next ≡ p = cc in (s.start, s.size, ap (stands s.start s.size) next, cc)
 
-pub one_leaf : (c : ℕ) (s : Span) (go : ℕ → Reading) (p : ℕ) (ls : List Leaf) → and_then (leaf_reads c s) go ≡ upto p ls
+pub one_leaf : (c : ℕ) (s : Result Span Misfit) (go : ℕ → Reading) (p : ℕ) (ls : List Leaf) → and_then (leaf_reads c s) go ≡ upto p ls
     → (q : ℕ) × (ns : List Leaf) × (go q ≡ upto p ns) × (length ls ≡ suc (length ns))
 one_leaf c s go p ls e =
     let w = both_fit (leaf_reads c s) go p ls e in
     let f = leaf_fit c s w.0 w.1 w.3 in
     (w.0, w.2, w.4, ap length (rw f.3 at w.5))
 
-pub contents_fit : (s : Span) (go : ℕ → ℕ → Reading) (p : ℕ) (ls : List Leaf) → contents s go ≡ upto p ls
-    → (start : ℕ) × (size : ℕ) × (s ≡ span.At start size p) × (go start p ≡ upto p ls)
+pub contents_fit : (s : Result Span Misfit) (go : ℕ → ℕ → Reading) (p : ℕ) (ls : List Leaf) → contents s go ≡ upto p ls
+    → (start : ℕ) × (size : ℕ) × (s ≡ stands start size p) × (go start p ≡ upto p ls)
 unfolding contents
-contents_fit (span.Misfit w) go p ls e = impossible cc
-contents_fit (span.At start size next) go p ls e =
-    let w = filling_fit next (go start next) p ls e in
-    (start, size, ap (span.At start size) (sym w.1), rw (← w.1) at w.0)
+contents_fit (Err m) go p ls e = impossible cc
+contents_fit (Ok s) go p ls e =
+    let w = filling_fit s.next (go s.start s.next) p ls e in
+    (s.start, s.size, ap (stands s.start s.size) (sym w.1), rw (← w.1) at w.0)
 
 then_same : (m : Reading) (f g : ℕ → Reading) → ((p : ℕ) (ls : List Leaf) → m ≡ upto p ls → f p ≡ g p) → and_then m f ≡ and_then m g
 unfolding and_then

@@ -9,9 +9,10 @@ use lib.Dec.{ltb}
 use lib.ListN.{length, take, length-append}
 use lib.Seq.{length-take-le}
 use Rattle.octets.proofs.LawsTests.{by_test, impossible}
-use Rattle.typestring.specs.Grammar.{Item, Items, value, rest, struct, array, end, more, print, Some, ItemRules, PartRules}
+use Rattle.typestring.specs.Grammar.{Item, Items, value, rest, struct, array, end, more, print, HasItem, ItemRules, PartRules}
+use Rattle.std.specs.Prelude.{Ok}
 use Rattle.datatype.specs.Leaf.{span_of, counted_at, rest_of}
-use Rattle.datatype.proofs.LawsLeaves.{span_fits, counted_fits}
+use Rattle.datatype.proofs.LawsLeaves.{same, span_fits, counted_fits}
 use Rattle.datatype.specs.Reading.{Leaf, InOrder, Reading, upto, and_then, elements, item_reads, part_reads}
 use Rattle.datatype.proofs.LawsReading.{both_fit, leaf_fit, one_leaf, contents_fit, elements_more}
 
@@ -117,7 +118,7 @@ no_spares (more rest t) left k = impossible (cc k.0)
 no_spares (more (struct u) t) left k = omega (arith, no_spares t left k.2)
 no_spares (more (array u) t) left k = omega (arith, no_spares t left k.2)
 
-some_least : (t : Items) (left : ℕ) → PartRules t left true → Some t → 1 ≤ leasts t
+some_least : (t : Items) (left : ℕ) → PartRules t left true → HasItem t → 1 ≤ leasts t
 unfolding PartRules ItemRules leasts
 some_least end left k some = absurd some
 some_least (more (value c v) t) left k some = omega arith
@@ -135,11 +136,9 @@ mutual
       let f = span_fits v part from w.0 w.1 p room c k w.2 in
       rw w.3 (record { onward = omega arith; within = f.1; few = omega arith; ordered = (f.2, f.3) })
   took_item rest left a part from p ls k room e =
-      let w = leaf_fit 68 (rest_of part from) p ls e in
-      let stop : length part ≡ p = cc in
-      let start : from ≡ w.0 = cc w.2 in
-      let size : length part - from ≡ w.1 = cc w.2 in
-      rw w.3 (record { onward = omega arith; within = omega arith; few = omega arith; ordered = (omega (arith, start), omega (arith, start, size)) })
+      let w = leaf_fit 68 (Ok (rest_of part from)) p ls e in
+      let s = same _ _ _ _ _ _ w.2 in
+      rw w.3 (record { onward = omega arith; within = omega arith; few = omega arith; ordered = (omega arith, omega arith) })
   took_item (struct t) left a part from p ls k room e =
       let w = contents_fit (counted_at part from) (λ start stop. part_reads t (take stop part) start) p ls e in
       let f = counted_fits part from w.0 w.1 p room w.2 in
@@ -166,13 +165,13 @@ mutual
 -- ---- what callers ask
 
 -- no element of an array takes zero octets, and it has at most a leaf for each
-pub element_took : (t : Items) (left : ℕ) (part : List ℕ) (from p : ℕ) (ls : List Leaf) → PartRules t left true → Some t → from ≤ length part
+pub element_took : (t : Items) (left : ℕ) (part : List ℕ) (from p : ℕ) (ls : List Leaf) → PartRules t left true → HasItem t → from ≤ length part
     → part_reads t part from ≡ upto p ls → Took part from p ls 1 1
 element_took t left part from p ls rules some room e =
     loosen (took_part t left true part from p ls rules room e) (some_least t left rules some) (omega (arith, no_spares t left rules))
 
 -- so an A is an element and then the A, as long as an octet is left
-pub array_more : (t : Items) (left : ℕ) (part : List ℕ) (from : ℕ) → PartRules t left true → Some t → from < length part
+pub array_more : (t : Items) (left : ℕ) (part : List ℕ) (from : ℕ) → PartRules t left true → HasItem t → from < length part
     → item_reads (array t) part from ≡ and_then (part_reads t part from) (λ p. item_reads (array t) part p)
 unfolding item_reads
 array_more t left part from rules some h =
@@ -197,7 +196,7 @@ lettered (more (value c v) t) left a part from p ls k spare e =
     let w = one_leaf c (span_of v part from) (λ q. part_reads t part q) p ls e in
     omega (arith, w.3, lettered t left a part w.0 p w.1 k.2 (omega arith) w.2)
 lettered (more rest t) left a part from p ls k spare e =
-    let w = one_leaf 68 (rest_of part from) (λ q. part_reads t part q) p ls e in
+    let w = one_leaf 68 (Ok (rest_of part from)) (λ q. part_reads t part q) p ls e in
     let nothing : w.1 ≡ [] = cc (w.2, ap (λ u. part_reads u part w.0) (k.1 refl)) in
     omega (arith, w.3, ap length nothing)
 lettered (more (struct u) t) left a part from p ls k spare e = absurd (omega (arith, few_spares t left a k.2))

@@ -6,10 +6,10 @@ use mathlib.Core.Path.{◌≡◌}
 use Prim.Native.Nat.{ℕ, ◌≤◌, ◌<◌}
 use native.Mathlib.Omega.{arith}
 use lib.ListN.{length}
-use Rattle.typestring.specs.Grammar.{Items, Some, PartRules}
+use Rattle.typestring.specs.Grammar.{Items, HasItem, PartRules}
 use Rattle.datatype.specs.Reading.{Leaf, upto, part_reads}
 use Rattle.datatype.proofs.LawsTook.{element_took}
 
-pub element_takes : (t : Items) (left : ℕ) (part : List ℕ) (from p : ℕ) (ls : List Leaf) → PartRules t left true → Some t → from ≤ length part
+pub element_takes : (t : Items) (left : ℕ) (part : List ℕ) (from p : ℕ) (ls : List Leaf) → PartRules t left true → HasItem t → from ≤ length part
     → part_reads t part from ≡ upto p ls → from < p
 element_takes t left part from p ls rules some room e = omega (arith, (element_took t left part from p ls rules some room e).onward)

@@ -1,11 +1,10 @@
 -- What a tree reads in a payload (01, Type strings).
-use Rattle.std.specs.Prelude.{cond, List, [], ◌∷◌, ◌++◌, ℕ, zero, suc, ◌+◌, ◌-◌, ◌≤◌, eqb, ltb, length, take}
+use Rattle.std.specs.Prelude.{cond, Option, None, Result, Ok, Err, List, [], ◌∷◌, ◌++◌, ℕ, zero, suc, ◌+◌, ◌-◌, ◌≤◌, eqb, ltb, length, take}
 use Rattle.octets.specs.Runs.{each}
-use Rattle.packed.specs.declared.Cause.{Cause}
-use Rattle.packed.specs.declared.Cause.TheVariants.{None}
+use Rattle.packed.specs.declared.Fault.{Fault}
 use Rattle.typestring.specs.Grammar.{Item, Items, value, rest, struct, array, end, more}
 use Rattle.datatype.specs.declared.leaf.Span.{Span}
-use Rattle.datatype.specs.declared.leaf.Span.TheVariants.{At, Misfit}
+use Rattle.datatype.specs.declared.leaf.Misfit.{Misfit}
 use Rattle.datatype.specs.Leaf.{span_of, counted_at, rest_of}
 
 -- "three a leaf: ASCII letter code, start in the payload, length"
@@ -28,7 +27,7 @@ InOrder from (leaf ∷ ls) stop = (from ≤ leaf.start) × InOrder (leaf.start +
 
 -- the payload does not fit, with the cause of the first fault, or the place reached and the leaves up to it
 pub data Reading : Type 0 where
-  misfit : Cause → Reading
+  misfit : Option Fault → Reading
   upto : ℕ → List Leaf → Reading
 
 unfoldable pub prefixed : List Leaf → Reading → Reading
@@ -46,14 +45,14 @@ filling stop (misfit w) = misfit w
 filling stop (upto p ls) = cond (eqb p stop) (upto p ls) (misfit None)
 
 -- a value that stands in the payload is a leaf
-unfoldable pub leaf_reads : ℕ → Span → Reading
-leaf_reads letter (Misfit w) = misfit w
-leaf_reads letter (At start size next) = upto next (leaf_of letter start size ∷ [])
+unfoldable pub leaf_reads : ℕ → Result Span Misfit → Reading
+leaf_reads letter (Err m) = misfit m.cause
+leaf_reads letter (Ok s) = upto s.next (leaf_of letter s.start s.size ∷ [])
 
 -- the contents of a t, `go` being how they are read from a start to an end
-unfoldable pub contents : Span → (ℕ → ℕ → Reading) → Reading
-contents (Misfit w) go = misfit w
-contents (At start size next) go = filling next (go start next)
+unfoldable pub contents : Result Span Misfit → (ℕ → ℕ → Reading) → Reading
+contents (Err m) go = misfit m.cause
+contents (Ok s) go = filling s.next (go s.start s.next)
 
 -- elements up to a place; the first number bounds them, and the octets there are enough, as no element takes none
 unfoldable pub elements : ℕ → (ℕ → Reading) → ℕ → ℕ → Reading
@@ -64,7 +63,7 @@ elements (suc n) go from stop = cond (ltb from stop) (and_then (go from) (λ p. 
 unfoldable mutual
   pub item_reads : Item → List ℕ → ℕ → Reading
   item_reads (value letter v) part from = leaf_reads letter (span_of v part from)
-  item_reads rest part from = leaf_reads 68 (rest_of part from)
+  item_reads rest part from = leaf_reads 68 (Ok (rest_of part from))
   item_reads (struct t) part from = contents (counted_at part from) (λ start stop. part_reads t (take stop part) start)
   item_reads (array t) part from = elements (length part - from) (λ p. part_reads t part p) from (length part)
 

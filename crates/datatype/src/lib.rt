@@ -5,4 +5,4 @@ mod leaf;
 mod list;
 mod reading;
 
-pub use reading::{Answer, Payload, read_typed};
+pub use reading::{Payload, Refusal, read_typed};

@@ -1,13 +1,14 @@
 // Reading a payload by a type string that is well-formed.
-ghost use Rattle.std.specs.Prelude.{◌≡◌, drop};
+ghost use Rattle.std.specs.Prelude.{◌≡◌, drop, Err};
 ghost use Rattle.typestring.specs.Grammar.{Item, Items};
 ghost use Rattle.typestring.specs.Calls.{PartFrom, ItemFrom};
+ghost use Rattle.datatype.specs.declared.reading.Refusal.TheVariants as refusal;
 ghost use Rattle.datatype.specs.Answer.{reported, report_of, filled, answer_to};
-ghost use Rattle.datatype.specs.Calls.{Room, ReadsPart, ReadsItem, filling_to};
+ghost use Rattle.datatype.specs.Calls.{Room, ReadsPart, ReadsItem};
 
-use crate::leaf::{Span, counted_at, rest_of, span_of};
+use crate::leaf::{Misfit, counted_at, rest_of, span_of};
 use crate::list::{Read, put_leaf};
-use packed::Cause;
+use packed::Fault;
 use typestring::{ItemKind, TypeString, ends_part, is_type, item_end, kind_of};
 
 // A payload is a slice; this type only has its limits.
@@ -20,115 +21,92 @@ impl Payload {
     pub const MAX_NUMBERS: usize = 3 * Payload::MAX_OCTETS;
 }
 
-// What the public call answers, with 01's number of each.
-#[derive(Clone, Copy)]
-pub enum Answer {
-    // 0: so many leaves stand in the list.
-    Leaves(usize),
+// Why the public call found no leaves, with 01's number of each.
+#[derive(Clone, Copy, PartialEq, Eq)]
+pub enum Refusal {
     // 15: the type string is not well-formed.
     Malformed,
     // 16: the payload does not fit it; and the fault of a packed integer, where that is the first from the left.
-    Misfit(Cause),
+    Misfit(Option<Fault>),
     // 17: the list has fewer than three numbers for each leaf.
     ShortList,
 }
 
-impl Answer {
-    // 01's number of the answer.
+impl Refusal {
+    // 01's number of the refusal.
     pub fn number(self) -> u32
-        ensures { result ≡ (reported self).number }
+        ensures { result ≡ (reported (Err self)).number }
     {
         match self {
-            Answer::Leaves(_) => 0,
-            Answer::Malformed => 15,
-            Answer::Misfit(_) => 16,
-            Answer::ShortList => 17,
+            Refusal::Malformed => 15,
+            Refusal::Misfit(_) => 16,
+            Refusal::ShortList => 17,
         }
     }
 
     // The fault of a packed integer, where that is why the payload does not fit.
-    pub fn cause(self) -> Cause
-        ensures { result ≡ (reported self).cause }
+    pub fn cause(self) -> Option<Fault>
+        ensures { result ≡ (reported (Err self)).cause }
     {
         match self {
-            Answer::Leaves(_) => Cause::None,
-            Answer::Malformed => Cause::None,
-            Answer::Misfit(cause) => cause,
-            Answer::ShortList => Cause::None,
+            Refusal::Misfit(cause) => cause,
+            Refusal::Malformed | Refusal::ShortList => None,
         }
     }
 }
 
-// Reads a payload by a type string. The leaves go to `list`, three numbers each: letter, start, length.
-pub fn read_typed(types: &[u8], payload: &[u8], list: &mut [u32]) -> Answer
+impl From<Misfit> for Refusal {
+    ghost from_gives = { λ m r. r ≡ refusal.Misfit m.cause };
+
+    fn from(misfit: Misfit) -> Refusal {
+        Refusal::Misfit(misfit.cause)
+    }
+}
+
+// Reads a payload by a type string, and tells how many leaves there are. They go to `list`, three numbers each: letter, start, length.
+pub fn read_typed(types: &[u8], payload: &[u8], list: &mut [u32]) -> Result<usize, Refusal>
     ensures report { reported result ≡ report_of (answer_to types.now payload.now list.old) }
     ensures list { list.new ≡ filled list.old (answer_to types.now payload.now list.old) }
 {
-    if is_type(types) {
-        let end = payload.len();
-        let room = list.len();
-        if Payload::MAX_OCTETS < end {
-            return Answer::Misfit(Cause::None);
-        }
-        // A first reading, which is lent none of the list, only counts: a refusal has to leave the list as it was.
-        match filling(
-            end,
-            read_sequence(
-                types,
-                0,
-                TypeString::MAX_OPEN,
-                payload,
-                0,
-                &mut list[0..0],
-                0,
-            ),
-        ) {
-            Read::Misfit(cause) => Answer::Misfit(cause),
-            Read::Upto(_, leaves) => {
-                if room < 3 * leaves {
-                    return Answer::ShortList;
-                }
-                read_sequence(types, 0, TypeString::MAX_OPEN, payload, 0, list, 0);
-                Answer::Leaves(leaves)
-            }
-        }
-    } else {
-        Answer::Malformed
+    if !is_type(types) {
+        return Err(Refusal::Malformed);
     }
+    if Payload::MAX_OCTETS < payload.len() {
+        return Err(Refusal::Misfit(None));
+    }
+    let start = Read { next: 0, leaves: 0 };
+    // A first reading, which is lent none of the list, only counts: a refusal has to leave the list as it was.
+    let reached = read_sequence(types, 0, TypeString::MAX_OPEN, payload, start, &mut [])?;
+    let counted = reached.filling(payload.len())?;
+    if list.len() < 3 * counted.leaves {
+        return Err(Refusal::ShortList);
+    }
+    // A second one comes to the same, and fills the list.
+    let _ = read_sequence(types, 0, TypeString::MAX_OPEN, payload, start, list);
+    Ok(counted.leaves)
 }
 
-// Reads the part of the payload from `from` on by the items from `at` on; the depth is how many brackets more may be opened.
+// Reads on in a part of the payload by the items from `at` on; the depth is how many brackets more may be opened. Types, place and depth are
+// no struct: the place changes alone in a loop and with the depth in brackets, and a literal that names all would be longer than they are.
 #[cycle(reading_parts)]
 fn read_sequence(
     types: &[u8],
     at: usize,
     depth: usize,
     part: &[u8],
-    from: usize,
+    start: Read,
     list: &mut [u32],
-    leaves: usize,
-) -> Read
-    requires { ((t : Items) × PartFrom (drop at types.now) depth t) × Room types.now part.now at from leaves }
-    ensures { ReadsPart (drop at types.now) depth part.now from list.old list.new leaves result }
+) -> Result<Read, Misfit>
+    requires { ((t : Items) × PartFrom (drop at types.now) depth t) × Room types.now part.now at start.next start.leaves }
+    ensures { ReadsPart (drop at types.now) depth part.now start.next list.old list.new start.leaves result }
 {
     let mut place = at;
-    let mut next = from;
-    let mut count = leaves;
-    loop {
-        if ends_part(types, place) {
-            return Read::Upto(next, count);
-        }
-        match read_item(types, place, depth, part, next, list, count) {
-            Read::Misfit(cause) => {
-                return Read::Misfit(cause);
-            }
-            Read::Upto(reached, counted) => {
-                next = reached;
-                count = counted;
-            }
-        }
+    let mut read = start;
+    while !ends_part(types, place) {
+        read = read_item(types, place, depth, part, read, list)?;
         place = item_end(types, place);
     }
+    Ok(read)
 }
 
 #[cycle(reading_parts)]
@@ -137,63 +115,35 @@ fn read_item(
     at: usize,
     depth: usize,
     part: &[u8],
-    from: usize,
+    start: Read,
     list: &mut [u32],
-    leaves: usize,
-) -> Read
-    requires { ((i : Item) × ItemFrom (drop at types.now) depth i) × Room types.now part.now at from leaves }
-    ensures { ReadsItem (drop at types.now) depth part.now from list.old list.new leaves result }
+) -> Result<Read, Misfit>
+    requires { ((i : Item) × ItemFrom (drop at types.now) depth i) × Room types.now part.now at start.next start.leaves }
+    ensures { ReadsItem (drop at types.now) depth part.now start.next list.old list.new start.leaves result }
 {
     let letter = types[at];
-    match kind_of(letter) {
-        ItemKind::Value(value) => put_leaf(list, leaves, letter, span_of(value, part, from)),
-        ItemKind::Struct => match counted_at(part, from) {
-            Span::Misfit(cause) => Read::Misfit(cause),
-            Span::At(start, _, next) => filling(
-                next,
-                read_sequence(
-                    types,
-                    at + 2,
-                    depth - 1,
-                    &part[0..next],
-                    start,
-                    list,
-                    leaves,
-                ),
-            ),
-        },
-        ItemKind::Array => {
-            let mut next = from;
-            let mut count = leaves;
-            while next < part.len() {
-                match read_sequence(types, at + 2, depth - 1, part, next, list, count) {
-                    Read::Misfit(cause) => {
-                        return Read::Misfit(cause);
-                    }
-                    Read::Upto(reached, counted) => {
-                        next = reached;
-                        count = counted;
-                    }
-                }
-            }
-            Read::Upto(next, count)
+    match kind_of(letter).unwrap() {
+        ItemKind::Value(value) => {
+            let span = span_of(value, part, start.next)?;
+            Ok(put_leaf(list, start.leaves, letter, span))
         }
-        // D: the string was checked, and no other letter is left.
-        _ => put_leaf(list, leaves, letter, rest_of(part, from)),
-    }
-}
-
-// A reading has to reach the end of its part.
-fn filling(stop: usize, read: Read) -> Read
-    ensures { result ≡ filling_to stop read }
-{
-    match read {
-        Read::Misfit(cause) => Read::Misfit(cause),
-        Read::Upto(next, leaves) => {
-            if next == stop {
-                return Read::Upto(next, leaves);
+        ItemKind::Rest => Ok(put_leaf(list, start.leaves, letter, rest_of(part, start.next))),
+        ItemKind::Struct => {
+            let contents = counted_at(part, start.next)?;
+            let inside = Read {
+                next: contents.start,
+                ..start
+            };
+            let inner = &part[..contents.next];
+            let reached = read_sequence(types, at + 2, depth - 1, inner, inside, list)?;
+            reached.filling(contents.next)
+        }
+        ItemKind::Array => {
+            let mut read = start;
+            while read.next < part.len() {
+                read = read_sequence(types, at + 2, depth - 1, part, read, list)?;
             }
-            Read::Misfit(Cause::None)
+            Ok(read)
         }
     }
 }

@@ -14,21 +14,21 @@ decreases-read_item l = 2 * (length l.types.now - l.at) + l.depth
 abbrev pub decreases-read_sequence : goal.decreases-read_sequence
 decreases-read_sequence l = 2 * (length l.types.now - l.at) + l.depth + 1
 
-abbrev pub invariant-read_item-loop-next : goal.invariant-read_item-loop-next
-invariant-read_item-loop-next l =
-    (l.next ≤ length l.part) × (l.count ≤ l.next + l.at) × (length l.list ≡ length l.fn.list)
+abbrev pub invariant-read_item-loop-read : goal.invariant-read_item-loop-read
+invariant-read_item-loop-read l =
+    (l.read.next ≤ length l.part) × (l.read.leaves ≤ l.read.next + l.at) × (length l.list ≡ length l.fn.list)
     × ((t : Items) → ItemFrom (drop l.at l.types) l.depth (array t)
-    → Finishes (item_reads (array t) l.part l.from) l.fn.list l.leaves (item_reads (array t) l.part l.next) l.list l.count)
+    → Finishes (item_reads (array t) l.part l.fn.start.next) l.fn.list l.fn.start.leaves (item_reads (array t) l.part l.read.next) l.list l.read.leaves)
 
-abbrev pub decreases-read_item-loop-next : goal.decreases-read_item-loop-next
-decreases-read_item-loop-next l = length l.part - l.next
+abbrev pub decreases-read_item-loop-read : goal.decreases-read_item-loop-read
+decreases-read_item-loop-read l = length l.part - l.read.next
 
-abbrev pub invariant-read_sequence-loop-at : goal.invariant-read_sequence-loop-at
-invariant-read_sequence-loop-at l =
-    Room l.types l.part l.place l.next l.count × (l.at ≤ l.place) × (length l.list ≡ length l.fn.list)
+abbrev pub invariant-read_sequence-loop-list : goal.invariant-read_sequence-loop-list
+invariant-read_sequence-loop-list l =
+    Room l.types l.part l.place l.read.next l.read.leaves × (l.at ≤ l.place) × (length l.list ≡ length l.fn.list)
     × ((t : Items) → PartFrom (drop l.at l.types) l.depth t
     → (u : Items) × PartFrom (drop l.place l.types) l.depth u
-    × Finishes (part_reads t l.part l.from) l.fn.list l.leaves (part_reads u l.part l.next) l.list l.count)
+    × Finishes (part_reads t l.part l.fn.start.next) l.fn.list l.fn.start.leaves (part_reads u l.part l.read.next) l.list l.read.leaves)
 
-abbrev pub decreases-read_sequence-loop-at : goal.decreases-read_sequence-loop-at
-decreases-read_sequence-loop-at l = length l.types - l.place
+abbrev pub decreases-read_sequence-loop-list : goal.decreases-read_sequence-loop-list
+decreases-read_sequence-loop-list l = length l.types - l.place
