@@ -3,11 +3,10 @@
 use mathlib.Core.Bool.{true}
 use mathlib.Core.List.{List, [], ◌∷◌, ◌++◌, foldl}
 use mathlib.Core.Path.{◌≡◌, refl, sym, ap, ◌∙◌}
-use Prim.Native.Nat.{ℕ, zero, suc, ◌+◌, ◌/◌}
+use Prim.Native.Nat.{ℕ, zero, suc}
 use native.Mathlib.Omega.{arith}
-use borrow.Author.Tests.{le-leb, lt-leb}
-use lib.ListN.{length, drop, length-append}
-use lib.Seq.{drop-append_seam}
+use lib.ListN.{length, length-append}
+use Rattle.std.proofs.lemmas.List.{append_cancel_left}
 use Rattle.octets.specs.Ranges.{is_between}
 use Rattle.octets.proofs.LawsTests.{by_test}
 use Rattle.octets.proofs.LawsRanges.{inside_told}
@@ -15,7 +14,7 @@ use Rattle.utf8.specs.declared.Stage.{Stage}
 use Rattle.utf8.specs.declared.Stage.TheVariants.{Between, Expecting, Wrong}
 use Rattle.utf8.specs.Utf8.{tails, leads, lead_in, step, ends, is_utf8}
 use Rattle.utf8.specs.Encoding.{is_scalar, octets_of, character_at, Scalars, encoded, Decoded}
-use Rattle.utf8.proofs.LawsCompletion.{Completes, none_completes, next_completes, step_inside, step_outside, completed, between_none, never_ends}
+use Rattle.utf8.proofs.LawsCompletion.{Completes, none_completes, next_completes, completed, between_none, never_ends}
 use Rattle.utf8.proofs.LawsEncoding.{Makes, by_size, some_octet, begins, character}
 
 -- ---- the octets of scalar values are well-formed
@@ -80,8 +79,8 @@ rest [] s e = record { front = []; characters = []; completes = none_completes s
 rest (x ∷ xs) Between e = rest_first x xs (rest xs (lead_in leads x) e)
 rest (x ∷ xs) (Expecting low high n) e =
     by_test (is_between low high x)
-    (λ t. rest_inside low high n x xs t (rest xs (tails n) (sym (ap (λ s. ends (foldl step s xs)) (step_inside low high n x t)) ∙ e)))
-    (λ t. never_ends xs (sym (ap (λ s. ends (foldl step s xs)) (step_outside low high n x t)) ∙ e))
+    (λ t. rest_inside low high n x xs t (rest xs (tails n) (rw t at e)))
+    (λ t. never_ends xs (rw t at e))
 rest (x ∷ xs) Wrong e = never_ends xs e
 
 pub decodes : (xs : List ℕ) → is_utf8 xs ≡ true → Decoded xs
@@ -96,10 +95,7 @@ decodes xs e =
 pub reads_back : (c : ℕ) (xs : List ℕ) → character_at (octets_of c ++ xs) ≡ c
 unfolding character_at
 reads_back c xs =
-    by_size (λ ys. character_at (ys ++ xs) ≡ c) c (λ h. rw (le-leb c 0x7F h))
-    (λ h k. let x = 0xC0 + c / 64 in rw (lt-leb x 0x7F (omega arith), le-leb x 0xDF (omega arith)) (omega arith))
-    (λ h k. let x = 0xE0 + c / 64 / 64 in rw (lt-leb x 0x7F (omega arith), lt-leb x 0xDF (omega arith), le-leb x 0xEF (omega arith)) (omega arith))
-    (λ h. let x = 0xF0 + c / 64 / 64 / 64 in rw (lt-leb x 0x7F (omega arith), lt-leb x 0xDF (omega arith), lt-leb x 0xEF (omega arith)) (omega arith))
+    by_size (λ ys. character_at (ys ++ xs) ≡ c) c (λ h. grind arith) (λ h k. grind arith) (λ h k. grind arith) (λ h. grind arith)
 
 -- ---- so they are those of one list of numbers only
 
@@ -107,9 +103,7 @@ nonempty : {P : Type 0} (c : ℕ) (xs : List ℕ) → [] ≡ octets_of c ++ xs �
 nonempty c xs e = absurd (omega (arith, ap length e, length-append (octets_of c) xs, some_octet c))
 
 same_rest : (c d : ℕ) → c ≡ d → (xs ys : List ℕ) → octets_of c ++ xs ≡ octets_of d ++ ys → xs ≡ ys
-same_rest c d n xs ys e =
-    sym (drop-append_seam (octets_of c) xs) ∙ ap (drop (length (octets_of c))) e
-    ∙ ap (λ m. drop (length (octets_of m)) (octets_of d ++ ys)) n ∙ drop-append_seam (octets_of d) ys
+same_rest c d n xs ys e = append_cancel_left (octets_of c) xs ys (e ∙ ap (λ m. octets_of m ++ ys) (sym n))
 
 pub one_list : (cs ds : List ℕ) → encoded cs ≡ encoded ds → cs ≡ ds
 one_list [] [] e = refl

@@ -1,10 +1,9 @@
 -- The octets that complete the character of a stage.
 use mathlib.Core.Bool.{true, false}
 use mathlib.Core.List.{List, [], ◌∷◌, ◌++◌, foldl}
-use mathlib.Core.Path.{◌≡◌, refl, ap, ◌∙◌}
+use mathlib.Core.Path.{◌≡◌, refl, ap}
 use Prim.Native.Nat.{ℕ, ◌≤◌}
 use Rattle.octets.specs.Ranges.{is_between}
-use Rattle.octets.proofs.LawsTests.{impossible}
 use Rattle.octets.proofs.LawsRanges.{inside, inside_told}
 use Rattle.utf8.specs.declared.Stage.{Stage}
 use Rattle.utf8.specs.declared.Stage.TheVariants.{Between, Expecting, Wrong}
@@ -27,23 +26,14 @@ next_completes low high n y ys h o = (inside low high y h.0 h.1, o)
 
 -- ---- they lead to its end
 
-pub step_inside : (low high n y : ℕ) → is_between low high y ≡ true → step (Expecting low high n) y ≡ tails n
-unfolding step
-step_inside low high n y e = rw e
-
-pub step_outside : (low high n y : ℕ) → is_between low high y ≡ false → step (Expecting low high n) y ≡ Wrong
-unfolding step
-step_outside low high n y e = rw e
-
 pub completed : (ys xs : List ℕ) (s : Stage) → Completes ys s → foldl step s (ys ++ xs) ≡ foldl step Between xs
 unfolding Completes step ends
 completed [] xs Between o = refl
-completed [] xs (Expecting low high n) o = impossible cc
-completed [] xs Wrong o = impossible cc
-completed (y ∷ ys) xs Between o = impossible cc
-completed (y ∷ ys) xs (Expecting low high n) o =
-    ap (λ s. foldl step s (ys ++ xs)) (step_inside low high n y o.0) ∙ completed ys xs (tails n) o.1
-completed (y ∷ ys) xs Wrong o = impossible cc
+completed [] xs (Expecting low high n) o = absurd cc
+completed [] xs Wrong o = absurd cc
+completed (y ∷ ys) xs Between o = absurd cc
+completed (y ∷ ys) xs (Expecting low high n) o = let e : step (Expecting low high n) y ≡ tails n = rw o.0 in cc (completed ys xs (tails n) o.1)
+completed (y ∷ ys) xs Wrong o = absurd cc
 
 -- ---- they are so many, each in its range
 
@@ -57,7 +47,7 @@ pub record Expected (low high n : ℕ) (ys : List ℕ) : Type 0 where
 
 pub expected : (low high n : ℕ) (ys : List ℕ) → Completes ys (Expecting low high n) → Expected low high n ys
 unfolding Completes ends
-expected low high n [] o = impossible cc
+expected low high n [] o = absurd cc
 expected low high n (y ∷ ys) o =
     let r = inside_told low high y o.0 in
     record { octet = y; rest = ys; is = refl; from = r.0; to = r.1; completes = o.1 }
@@ -65,12 +55,12 @@ expected low high n (y ∷ ys) o =
 pub between_none : (ys : List ℕ) → Completes ys Between → ys ≡ []
 unfolding Completes
 between_none [] o = refl
-between_none (y ∷ ys) o = impossible cc
+between_none (y ∷ ys) o = absurd cc
 
 pub wrong_never : {P : Type 0} (ys : List ℕ) → Completes ys Wrong → P
 unfolding Completes ends
-wrong_never [] o = impossible cc
-wrong_never (y ∷ ys) o = impossible cc
+wrong_never [] o = absurd cc
+wrong_never (y ∷ ys) o = absurd cc
 
 -- ---- behind a wrong octet nothing ends well
 
@@ -81,4 +71,4 @@ wrong_stays (x ∷ xs) = wrong_stays xs
 
 pub never_ends : {P : Type 0} (xs : List ℕ) → ends (foldl step Wrong xs) ≡ true → P
 unfolding ends
-never_ends xs e = let w = ap ends (wrong_stays xs) in impossible cc
+never_ends xs e = let w = ap ends (wrong_stays xs) in absurd cc

@@ -5,12 +5,12 @@ use mathlib.Core.Path.{◌≡◌, refl, sym, ap, ◌∙◌}
 use Prim.Native.Nat.{ℕ, zero, suc, ◌+◌, ◌-◌, ◌*◌, ◌/◌, ◌≤◌, ◌<◌}
 use native.Mathlib.Omega.{arith}
 use native.Mathlib.Nat.{zero-add}
-use borrow.Author.Tests.{le-leb, lt-leb, leb-true, leb-false}
+use borrow.Author.Tests.{leb-true, leb-false}
 use lib.Dec.{leb}
 use lib.ListN.{length}
 use Rattle.octets.specs.Ranges.{is_between}
-use Rattle.octets.proofs.LawsTests.{by_test, chosen, impossible}
-use Rattle.octets.proofs.LawsRanges.{inside, inside_told, above}
+use Rattle.octets.proofs.LawsTests.{by_test, chosen}
+use Rattle.octets.proofs.LawsRanges.{inside_told}
 use Rattle.utf8.specs.declared.Stage.{Stage}
 use Rattle.utf8.specs.declared.Stage.TheVariants.{Between, Expecting, Wrong}
 use Rattle.utf8.specs.Utf8.{tails, leads, lead_in, ends}
@@ -22,24 +22,20 @@ use Rattle.utf8.proofs.LawsCompletion.{Completes, none_completes, next_completes
 
 module _ (c : ℕ) where
   below_surrogates : c ≤ 0xD7FF → is_scalar c ≡ true
-  unfolding is_scalar
-  below_surrogates h = rw (inside 0x0000 0xD7FF c (omega arith) h)
+  unfolding is_scalar is_between
+  below_surrogates h = grind arith
 
   above_surrogates : 0xE000 ≤ c → c ≤ 0x10FFFF → is_scalar c ≡ true
-  unfolding is_scalar
-  above_surrogates h k = rw (above 0x0000 0xD7FF c (omega arith), inside 0xE000 0x10FFFF c h k)
+  unfolding is_scalar is_between
+  above_surrogates h k = grind arith
 
   low_scalar : c ≤ 0xDFFF → is_scalar c ≡ true → c ≤ 0xD7FF
-  unfolding is_scalar
-  low_scalar h s =
-      by_test (is_between 0x0000 0xD7FF c) (λ t. (inside_told _ _ c t).1)
-      (λ t. let r = inside_told 0xE000 0x10FFFF c (rw t at s) in absurd (omega arith))
+  unfolding is_scalar is_between
+  low_scalar h s = grind arith
 
   scalar_most : is_scalar c ≡ true → c ≤ 0x10FFFF
-  unfolding is_scalar
-  scalar_most s =
-      by_test (is_between 0x0000 0xD7FF c) (λ t. let r = inside_told _ _ c t in omega arith)
-      (λ t. (inside_told 0xE000 0x10FFFF c (rw t at s)).1)
+  unfolding is_scalar is_between
+  scalar_most s = grind arith
 
 -- ---- the octets of a number, by how many they are
 
@@ -50,18 +46,15 @@ InRow bits n c = (is_scalar c ≡ true) × (octets_of c ≡ filled bits n c [])
 module _ (c : ℕ) where
   in_two : 0x7F < c → c ≤ 0x7FF → InRow 0xC0 1 c
   unfolding octets_of
-  in_two h k = (below_surrogates c (omega arith), rw (lt-leb _ _ h, le-leb _ _ k))
+  in_two h k = (below_surrogates c (omega arith), grind arith)
 
   in_three : 0x7FF < c → c ≤ 0xFFFF → is_scalar c ≡ true → InRow 0xE0 2 c
   unfolding octets_of
-  in_three h k s = let j : 0x7F < c = omega arith in (s, rw (lt-leb _ _ j, lt-leb _ _ h, le-leb _ _ k))
+  in_three h k s = (s, grind arith)
 
   in_four : 0xFFFF < c → c ≤ 0x10FFFF → InRow 0xF0 3 c
   unfolding octets_of
-  in_four h k =
-      let i : 0x7F < c = omega arith in
-      let j : 0x7FF < c = omega arith in
-      (above_surrogates c (omega arith) k, rw (lt-leb _ _ i, lt-leb _ _ j, lt-leb _ _ h))
+  in_four h k = (above_surrogates c (omega arith) k, grind arith)
 
 -- what holds by size holds of all
 pub by_size : (P : List ℕ → Type 0) (c : ℕ) → (c ≤ 0x7F → P (c ∷ [])) → (0x7F < c → c ≤ 0x7FF → P (filled 0xC0 1 c []))
@@ -73,7 +66,8 @@ by_size P c one two three four =
     (λ u. chosen P (leb c 0xFFFF) (λ v. three (leb-false _ _ u) (leb-true _ _ v)) (λ v. four (leb-false _ _ v))))
 
 pub some_octet : (c : ℕ) → 0 < length (octets_of c)
-some_octet c = by_size (λ xs. 0 < length xs) c (λ h. omega arith) (λ h k. omega arith) (λ h k. omega arith) (λ h. omega arith)
+unfolding octets_of
+some_octet c = grind arith
 
 -- ---- tails, once over their number
 
@@ -94,8 +88,8 @@ record Tails (bits k n : ℕ) (ys : List ℕ) : Type 0 where
 tails_filled : (bits k n : ℕ) (ys : List ℕ) → Completes ys (tails k) → Tails bits k n ys
 unfolding Completes tails ends
 tails_filled bits zero n [] o = record { least = omega arith; most = omega arith; octets = λ m xs. rw (zero-add m) }
-tails_filled bits zero n (y ∷ ys) o = impossible cc
-tails_filled bits (suc k) n [] o = impossible cc
+tails_filled bits zero n (y ∷ ys) o = absurd cc
+tails_filled bits (suc k) n [] o = absurd cc
 tails_filled bits (suc k) n (y ∷ ys) o =
     let h = inside_told 0x80 0xBF y o.0 in
     let n' = n * 64 + (y - 0x80) in
@@ -129,7 +123,7 @@ of_one : (x : ℕ) (ys : List ℕ) → x ≤ 0x7F → Makes x ys Between
 unfolding Makes octets_of
 of_one x ys h o =
     let e = between_none ys o in
-    record { number = x; scalar = below_surrogates x (omega arith); octets = rw (le-leb _ _ h, e) }
+    record { number = x; scalar = below_surrogates x (omega arith); octets = grind arith }
 
 -- a first octet with these leading bits: the numbers are those from its least tails to its most
 of_more : (bits x low high n : ℕ) (ys : List ℕ) → (bits ≤ x) × (0x80 ≤ low) × (high ≤ 0xBF)
