@@ -16,7 +16,7 @@ use Rattle.property.specs.declared.row.ReadOnly.{ReadOnly as Fixed}
 use Rattle.property.specs.declared.row.ReadOnly.TheVariants.{LastStatus, ProtocolVersion, VersionText, InterfaceType, Vendor, Capabilities, InterfaceCount, HardwareAddress}
 use Rattle.property.specs.declared.row.Row.{Row}
 use Rattle.property.proofs.TableRule.{numbers_keep, width_most}
-use Rattle.device.specs.State.{text_of, octets_of, max_reply}
+use Rattle.device.specs.State.{octets_of, max_reply}
 use Rattle.device.specs.Rules.{settings_rule, link_rule}
 use Rattle.device.proofs.StateRules.{settings_told, name_room, ports_room}
 use Rattle.device.specs.declared.view.View.{View}
@@ -30,7 +30,7 @@ module _ (v : View) (s : settings_rule v.settings ≡ true) where
   fixed_size ProtocolVersion = omega arith
   fixed_size VersionText =
       let t = (settings_told v.settings s).text in
-      omega (arith, length-append (text_of v.settings.text) (0 ∷ []), t.most, t.counted)
+      omega (arith, length-append (octets_of v.settings.text) (0 ∷ []), t.most, t.counted)
   fixed_size InterfaceType = omega arith
   fixed_size Vendor = omega (arith, packed_size v.settings.vendor)
   fixed_size Capabilities = omega arith

@@ -15,7 +15,7 @@ use Rattle.property.specs.declared.row.Kind.{Kind}
 use Rattle.property.specs.declared.row.Kind.TheVariants.{ReadOnly, Power, Number, Name, Ports}
 use Rattle.property.specs.declared.row.Row.{Row}
 use Rattle.property.proofs.TableRule.{scope_told}
-use Rattle.device.specs.State.{text_of, octets_of}
+use Rattle.device.specs.State.{octets_of}
 use Rattle.device.specs.declared.view.View.{View}
 use Rattle.reply.specs.Value.{fixed_value, number_value, value_of}
 
@@ -24,7 +24,7 @@ module _ (v w : View) (settings : v.settings ≡ w.settings) (power : v.power �
   unfolding fixed_value
   fixed_shared_lem LastStatus t = impossible cc
   fixed_shared_lem ProtocolVersion t = refl
-  fixed_shared_lem VersionText t = ap (λ s. text_of s.text ++ (0 ∷ [])) settings
+  fixed_shared_lem VersionText t = ap (λ s. octets_of s.text ++ (0 ∷ [])) settings
   fixed_shared_lem InterfaceType t = refl
   fixed_shared_lem Vendor t = ap (λ s. packed s.vendor) settings
   fixed_shared_lem Capabilities t = refl

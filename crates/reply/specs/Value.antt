@@ -7,14 +7,14 @@ use Rattle.property.specs.declared.row.ReadOnly.{ReadOnly as Fixed}
 use Rattle.property.specs.declared.row.ReadOnly.TheVariants.{LastStatus, ProtocolVersion, VersionText, InterfaceType, Vendor, Capabilities, InterfaceCount, HardwareAddress}
 use Rattle.property.specs.declared.row.Kind.{Kind}
 use Rattle.property.specs.declared.row.Kind.TheVariants.{ReadOnly, Power, Number, Name, Ports}
-use Rattle.device.specs.State.{text_of, octets_of}
+use Rattle.device.specs.State.{octets_of}
 use Rattle.device.specs.declared.view.View.{View}
 
 -- types i, ii, U, i, i, A(i), C and E
 unfoldable pub fixed_value : View → Fixed → List ℕ
 fixed_value v LastStatus = packed v.link.status
 fixed_value v ProtocolVersion = 4 ∷ 3 ∷ []
-fixed_value v VersionText = text_of v.settings.text ++ (0 ∷ [])
+fixed_value v VersionText = octets_of v.settings.text ++ (0 ∷ [])
 fixed_value v InterfaceType = 3 ∷ []
 fixed_value v Vendor = packed v.settings.vendor
 fixed_value v Capabilities = 24 ∷ 52 ∷ []

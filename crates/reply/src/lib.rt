@@ -4,4 +4,4 @@
 mod reply;
 mod value;
 
-pub use reply::{write_reply, write_status};
+pub use reply::{Asked, write_reply, write_status};

@@ -12,61 +12,55 @@ use octets::{write_octet, write_octets};
 use packed::write_packed;
 use property::{Command, Row, commands};
 
+// A command on a property, with the header that its reply repeats.
+#[derive(Clone, Copy)]
+pub struct Asked<'a> {
+    pub header: u8,
+    pub command: Command,
+    pub row: Row,
+    pub payload: &'a [u8],
+}
+
 // Property 0 and a status below 128, both one octet packed.
+#[tactic(auto, unfolding(crate::specs::Reply::status_reply))]
 pub fn write_status(out: &mut [u8], header: u8, status: u8) -> usize
     requires { 4 ≤ length out.old }
     ensures { Wrote out.old out.new 0 result (status_reply header status) }
 {
-    let reply = [header, commands::VALUE_IS, 0, status];
-    write_octets(out, 0, &reply)
+    write_octets(out, 0, &[header, commands::VALUE_IS, 0, status])
 }
 
+#[tactic(auto, unfolding(crate::specs::Reply::reply_command))]
 fn reply_command(command: Command) -> u8
     ensures { result ≡ reply_command command }
 {
     match command {
-        Command::Get => commands::VALUE_IS,
-        Command::Set => commands::VALUE_IS,
+        Command::Get | Command::Set => commands::VALUE_IS,
         Command::Insert => commands::VALUE_INSERTED,
         Command::Remove => commands::VALUE_REMOVED,
     }
 }
 
 // The value held, or the item, which is the payload.
-fn write_content(
-    out: &mut [u8],
-    at: usize,
-    view: View,
-    command: Command,
-    row: Row,
-    payload: &[u8],
-) -> usize
-    requires rules { (settings_rule view.settings ≡ true) × (link_rule view.link ≡ true) × (row_rule row ≡ true) }
-    requires room { (at + max_content ≤ length out.old) × (at + length (content view command row.kind payload.now) ≤ length out.old) }
-    ensures { Wrote out.old out.new at result (content view command row.kind payload.now) }
+#[tactic(auto, unfolding(crate::specs::Reply::content))]
+fn write_content(out: &mut [u8], at: usize, view: View, asked: Asked) -> usize
+    requires rules { (settings_rule view.settings ≡ true) × (link_rule view.link ≡ true) × (row_rule asked.row ≡ true) }
+    requires room { (at + max_content ≤ length out.old) × (at + length (content view asked.command asked.row.kind asked.payload.now) ≤ length out.old) }
+    ensures { Wrote out.old out.new at result (content view asked.entry.command asked.entry.row.kind asked.entry.payload.now) }
 {
-    match command {
-        Command::Get => write_value(out, at, view, row),
-        Command::Set => write_value(out, at, view, row),
-        Command::Insert => write_octets(out, at, payload),
-        Command::Remove => write_octets(out, at, payload),
+    match asked.command {
+        Command::Get | Command::Set => write_value(out, at, view, asked.row),
+        Command::Insert | Command::Remove => write_octets(out, at, asked.payload),
     }
 }
 
-pub fn write_reply(
-    out: &mut [u8],
-    view: View,
-    header: u8,
-    command: Command,
-    row: Row,
-    payload: &[u8],
-) -> usize
-    requires rules { (settings_rule view.settings ≡ true) × (link_rule view.link ≡ true) × (row_rule row ≡ true) }
-    requires room { (max_reply ≤ length out.old) × (length (content view command row.kind payload.now) ≤ max_content) }
-    ensures { Wrote out.old out.new 0 result (success_reply view header command row payload.now) }
+pub fn write_reply(out: &mut [u8], view: View, asked: Asked) -> usize
+    requires rules { (settings_rule view.settings ≡ true) × (link_rule view.link ≡ true) × (row_rule asked.row ≡ true) }
+    requires room { (max_reply ≤ length out.old) × (length (content view asked.command asked.row.kind asked.payload.now) ≤ max_content) }
+    ensures { Wrote out.old out.new 0 result (success_reply view asked.entry.header asked.entry.command asked.entry.row asked.entry.payload.now) }
 {
-    let header_end = write_octet(out, 0, header);
-    let command_end = write_octet(out, header_end, reply_command(command));
-    let start = write_packed(out, command_end, row.id);
-    write_content(out, start, view, command, row, payload)
+    let header_end = write_octet(out, 0, asked.header);
+    let command_end = write_octet(out, header_end, reply_command(asked.command));
+    let start = write_packed(out, command_end, asked.row.id);
+    write_content(out, start, view, asked)
 }

@@ -21,63 +21,41 @@ fn write_text(out: &mut [u8], at: usize, text: &[u8]) -> usize
     write_octet(out, end, 0)
 }
 
+#[tactic(auto, using(packed::proofs::ReadsBack::packed_size, device::proofs::StateRules::settings_told), unfolding(crate::specs::Value::fixed_value))]
 fn write_fixed(out: &mut [u8], at: usize, view: View, fixed: ReadOnly) -> usize
     requires { (settings_rule view.settings ≡ true) × (at + max_content ≤ length out.old) }
     ensures { Wrote out.old out.new at result (fixed_value view fixed) }
 {
-    let settings = view.settings;
-    let link = view.link;
     match fixed {
-        ReadOnly::LastStatus => write_packed(out, at, link.status as u32),
+        ReadOnly::LastStatus => write_packed(out, at, u32::from(view.link.status)),
         ReadOnly::ProtocolVersion => write_octets(out, at, b"\x04\x03"),
-        ReadOnly::VersionText => {
-            let text = settings.text;
-            let octets = text.octets;
-            let len = text.len;
-            write_text(out, at, &octets[..len])
-        }
+        ReadOnly::VersionText => write_text(out, at, view.settings.text.octets()),
         ReadOnly::InterfaceType => write_octet(out, at, 3),
-        ReadOnly::Vendor => write_packed(out, at, settings.vendor),
+        ReadOnly::Vendor => write_packed(out, at, view.settings.vendor),
         ReadOnly::Capabilities => write_octets(out, at, b"\x18\x34"),
-        ReadOnly::InterfaceCount => write_octet(out, at, settings.links as u8),
-        ReadOnly::HardwareAddress => {
-            let address = settings.address;
-            write_octets(out, at, &address)
-        }
+        ReadOnly::InterfaceCount => write_octet(out, at, view.settings.links as u8),
+        ReadOnly::HardwareAddress => write_octets(out, at, &view.settings.address),
     }
 }
 
+#[tactic(auto, using(property::proofs::TableRule::width_most), unfolding(crate::specs::Value::number_value))]
 fn write_number(out: &mut [u8], at: usize, view: View, slot: usize) -> usize
     requires { (slot < slot_count) × (at + 4 ≤ length out.old) }
     ensures { Wrote out.old out.new at result (number_value view slot) }
 {
-    let number = number_at(slot);
-    let link = view.link;
-    let numbers = link.numbers;
-    write_le(out, at, numbers[slot], number.width)
+    write_le(out, at, view.link.numbers[slot], number_at(slot).width)
 }
 
+#[tactic(auto, using(device::proofs::StateRules::name_room, device::proofs::StateRules::ports_room, property::proofs::TableRule::slot_below), unfolding(crate::specs::Value::value_of))]
 pub fn write_value(out: &mut [u8], at: usize, view: View, row: Row) -> usize
     requires { (settings_rule view.settings ≡ true) × (link_rule view.link ≡ true) × (row_rule row ≡ true) × (at + max_content ≤ length out.old) }
     ensures { Wrote out.old out.new at result (value_of view row.kind) }
 {
-    let kind = row.kind;
-    let link = view.link;
-    match kind {
+    match row.kind {
         Kind::ReadOnly(fixed) => write_fixed(out, at, view, fixed),
         Kind::Power => write_octet(out, at, view.power),
         Kind::Number(slot) => write_number(out, at, view, slot),
-        Kind::Name => {
-            let name = link.name;
-            let octets = name.octets;
-            let len = name.len;
-            write_text(out, at, &octets[..len])
-        }
-        Kind::Ports => {
-            let ports = link.ports;
-            let octets = ports.octets;
-            let len = ports.len;
-            write_octets(out, at, &octets[..len])
-        }
+        Kind::Name => write_text(out, at, view.link.name.octets()),
+        Kind::Ports => write_octets(out, at, view.link.ports.octets()),
     }
 }
