@@ -11,6 +11,7 @@ pub fn write_octet(out: &mut [u8], at: usize, octet: u8) -> usize
     at + 1
 }
 
+#[tactic(auto, using(crate::proofs::LawsWriting::put_part))]
 pub fn write_octets(out: &mut [u8], at: usize, octets: &[u8]) -> usize
     requires { at + length octets.now ≤ length out.old }
     ensures { Wrote out.old out.new at result octets.now }
