@@ -1,11 +1,12 @@
 -- PROMISE: every row of the two tables keeps its rule, each by one test that is computed over the whole table; what is looked up is the
 -- row of that property, and keeps the rule; the slots that the rules of the state name are those of 65 and 66.
-use mathlib.Core.Path.{◌≡◌, refl, sym}
-use mathlib.Core.Bool.{Bool, true, false, cond, not, ◌&&◌, ◌||◌}
+use mathlib.Core.Path.{◌≡◌, refl}
+use mathlib.Core.Bool.{true}
 use mathlib.Core.List.{List, [], ◌∷◌}
-use Prim.Native.Nat.{ℕ, suc, ◌^◌, ◌<◌, ◌≤◌}
-use borrow.Author.Tests.{eqb-true, ltb-true, leb-true}
-use lib.Dec.{eqb, ltb, leb}
+use Prim.Native.Nat.{ℕ, ◌<◌, ◌≤◌}
+use borrow.Author.Tests.{eqb-true}
+use native.Mathlib.Omega.{arith}
+use lib.Dec.{eqb}
 use lib.ListN.{get_or}
 use Rattle.std.specs.Prelude.{Option, None, Some, find}
 use Rattle.std.specs.List.{list_all}
@@ -64,45 +65,29 @@ lookup_keeps id = keeps id (lookup id) (lookup_asked id)
 
 -- ---- what the rule tells
 
-rest_told : (r : Row) → row_rule r ≡ true → ltb r.id 16384 && kind_rule r.kind r ≡ true
-rest_told r t = and_r (cond (of_device r.scope) (is_shared r.kind) (not (is_shared r.kind))) _ (and_r r.get _ t)
-
 -- a row's scope is that of its kind
-same_test : (a b : Bool) → cond a b (not b) ≡ true → a ≡ b
-same_test true true t = refl
-same_test true false t = sym t
-same_test false true t = t
-same_test false false t = refl
-
 pub scope_told : (r : Row) → row_rule r ≡ true → of_device r.scope ≡ is_shared r.kind
-scope_told r t =
-    same_test (of_device r.scope) (is_shared r.kind)
-    (and_l (cond (of_device r.scope) (is_shared r.kind) (not (is_shared r.kind))) _ (and_r r.get _ t))
+scope_told r t = grind arith
 
 pub small_id : (r : Row) → row_rule r ≡ true → r.id < 16384
-small_id r t = ltb-true r.id 16384 (and_l (ltb r.id 16384) _ (rest_told r t))
+small_id r t = grind arith
 
 kind_told : (r : Row) (k : Kind) → r.kind ≡ k → row_rule r ≡ true → kind_rule k r ≡ true
-kind_told r k e t = rw (← e) (and_r (ltb r.id 16384) _ (rest_told r t))
+kind_told r k e t = rw (← e) (grind arith)
 
 pub power_id : (r : Row) → r.kind ≡ Power → row_rule r ≡ true → r.id ≡ 7
-power_id r e t = eqb-true r.id 7 (and_l (eqb r.id 7) _ (kind_told r Power e t))
+power_id r e t = let k = kind_told r Power e t in grind arith
 
 pub slot_below : (r : Row) (slot : ℕ) → r.kind ≡ Number slot → row_rule r ≡ true → slot < slot_count
-slot_below r slot e t = ltb-true slot slot_count (and_l (ltb slot slot_count) _ (kind_told r (Number slot) e t))
+slot_below r slot e t = let k = kind_told r (Number slot) e t in grind arith
 
 pub width_most : (n : Numeric) → number_rule n ≡ true → n.width ≤ 4
-width_most n t = leb-true n.width 4 (and_l (leb n.width 4) _ (and_r (leb 1 n.width) _ t))
-
-three_or_nine : (s : ℕ) → (eqb s 3 || eqb s 9) ≡ true → RefusalStatus s
-three_or_nine s t =
-    by_test (eqb s 3)
-    (λ e. let three = eqb-true s 3 e in rw three invalid_argument)
-    (λ e. let nine = eqb-true s 9 (rw e at t) in rw nine parse_error)
+width_most n t = grind arith
 
 -- a value outside is refused with one of the nine statuses
 pub outside_refused : (n : Numeric) → number_rule n ≡ true → RefusalStatus (status_number n.outside)
 outside_refused n t =
     let s = status_number n.outside in
-    three_or_nine s
-    (and_l (eqb s 3 || eqb s 9) _ (and_r (eqb (suc n.top) (256 ^ n.width)) _ (and_r (leb n.width 4) _ (and_r (leb 1 n.width) _ t))))
+    by_test (eqb s 3)
+    (λ e. let three : s ≡ 3 = eqb-true s 3 e in rw three invalid_argument)
+    (λ e. let nine : s ≡ 9 = grind arith in rw nine parse_error)

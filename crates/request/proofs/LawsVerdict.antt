@@ -4,11 +4,9 @@ use mathlib.Core.Bool.{true}
 use mathlib.Core.List.{List}
 use Prim.Native.Nat.{ℕ, ◌≤◌}
 use native.Mathlib.Omega.{arith}
-use borrow.Author.Tests.{eqb-true, ltb-false}
-use lib.Dec.{eqb, ltb}
 use lib.ListN.{length, get_or}
 use Rattle.std.specs.Prelude.{Option, None, Some, Result, Ok, Err}
-use Rattle.octets.proofs.LawsTests.{by_test, impossible}
+use Rattle.octets.proofs.LawsTests.{impossible}
 use Rattle.packed.specs.Packed.{packed_at, read}
 use Rattle.packed.specs.declared.Fault.{Fault}
 use Rattle.packed.specs.declared.Packed.{Packed}
@@ -39,7 +37,7 @@ pub record Reached (b : List ℕ) (c : Command) (r : Row) (start : ℕ) : Type 0
 by_row_lem : (d c : Command) (at start : ℕ) (f : Option Row) (r : Row) → by_row d at f ≡ Ok (Reach c r start)
     → (f ≡ Some r) × (d ≡ c) × (at ≡ start) × (allows r c ≡ true)
 by_row_lem d c at start None r e = impossible cc
-by_row_lem d c at start (Some x) r e = by_test (allows x d) (λ t. let e' = rw t at e in (cc, cc, cc, cc)) (λ t. let e' = rw t at e in impossible cc)
+by_row_lem d c at start (Some x) r e = (grind arith, grind arith, grind arith, grind arith)
 
 from_found : (id : ℕ) (f : Option Row) (r : Row) → Asked id f → f ≡ Some r → (row_rule r ≡ true) × (r.id ≡ id)
 from_found id None r a e = impossible cc
@@ -57,21 +55,19 @@ by_command_lem : (b : List ℕ) (q : Result Packed Fault) (c : Command) (r : Row
     → packed_at b 1 ≡ q → by_command b q ≡ Ok (Reach c r start) → Reached b c r start
 by_command_lem b (Err f) c r start p e = impossible cc
 by_command_lem b (Ok a) c r start p e =
-    by_test (eqb a.number 0) (λ t. let e' = rw t at e in impossible cc)
-    (λ t. by_test (eqb a.number 1) (λ u. let e' = rw (t, u) at e in impossible cc)
-    (λ u. by_test (ltb 5 a.number) (λ w. let e' = rw (t, u, w) at e in impossible cc)
-    (λ w. let told = by_property_lem (command_of a.number) c (packed_at b a.next) r start (rw (t, u, w) at e) in
+    let goes : by_property (command_of a.number) (packed_at b a.next) ≡ Ok (Reach c r start) = grind arith in
+    let told = by_property_lem (command_of a.number) c (packed_at b a.next) r start goes in
     record {
       number = a.number;
       next = a.next;
       command = p;
-      few = ltb-false 5 a.number w;
+      few = grind arith;
       named = told.1;
       property = told.0;
       found = told.4;
       allowed = told.2;
       rule = told.3;
-    })))
+    }
 
 pub verdict_reach : (b : List ℕ) (c : Command) (r : Row) (start : ℕ) → verdict b ≡ Ok (Reach c r start) → Reached b c r start
 unfolding verdict
@@ -85,7 +81,7 @@ payload_start b c r start e = let t = verdict_reach b c r start e in (place_afte
 
 row_no_reset : (c : Command) (start : ℕ) (f : Option Row) → by_row c start f ≡ Ok Reset → ⊥
 row_no_reset c start None e = impossible cc
-row_no_reset c start (Some r) e = by_test (allows r c) (λ t. let e' = rw t at e in impossible cc) (λ t. let e' = rw t at e in impossible cc)
+row_no_reset c start (Some r) e = grind arith
 
 property_no_reset : (c : Command) (q : Result Packed Fault) → by_property c q ≡ Ok Reset → ⊥
 property_no_reset c (Err f) e = impossible cc
@@ -94,11 +90,9 @@ property_no_reset c (Ok p) e = row_no_reset c p.next (lookup p.number) e
 command_reset : (b : List ℕ) (q : Result Packed Fault) → packed_at b 1 ≡ q → by_command b q ≡ Ok Reset → get_or b 1 0 ≡ 1
 command_reset b (Err f) p e = impossible cc
 command_reset b (Ok a) p e =
-    by_test (eqb a.number 0) (λ t. let e' = rw t at e in impossible cc)
-    (λ t. by_test (eqb a.number 1)
-    (λ u. let one = eqb-true a.number 1 u in (one_octet b 1 a.number a.next p (omega arith)).0 ∙ one)
-    (λ u. by_test (ltb 5 a.number) (λ w. let e' = rw (t, u, w) at e in impossible cc)
-    (λ w. absurd (property_no_reset (command_of a.number) (packed_at b a.next) (rw (t, u, w) at e)))))
+    let other = property_no_reset (command_of a.number) (packed_at b a.next) in
+    let one : a.number ≡ 1 = grind arith in
+    (one_octet b 1 a.number a.next p (omega arith)).0 ∙ one
 
 -- RESET is told by the second octet
 pub verdict_reset : (b : List ℕ) → verdict b ≡ Ok Reset → get_or b 1 0 ≡ 1
