@@ -14,7 +14,7 @@ use Rattle.octets.specs.LittleEndian.{le}
 use Rattle.octets.proofs.LawsTests.{by_test, and_l, and_r, both, impossible}
 use Rattle.packed.specs.Packed.{number_in, packed_at}
 use Rattle.packed.proofs.OneSpelling.{one_octet}
-use Rattle.property.specs.Row.{rows, settable, lookup_in, lookup, allows}
+use Rattle.property.specs.Row.{rows, settable, lookup, allows}
 use Rattle.property.specs.Number.{power_state, within}
 use Rattle.property.proofs.TableRule.{power_id}
 use Rattle.property.specs.declared.commands.Command.{Command}
@@ -23,28 +23,27 @@ use Rattle.property.specs.declared.row.Kind.{Kind}
 use Rattle.property.specs.declared.row.Kind.TheVariants.{ReadOnly, Power, Number as Kind-as-Number, Name, Ports}
 use Rattle.property.specs.declared.row.Scope.TheVariants as scope
 use Rattle.property.specs.declared.row.Row.{Row}
-use Rattle.device.specs.declared.state.Link.{Link}
 use Rattle.device.specs.declared.view.View.{View}
 use Rattle.device.specs.declared.view.Effect.TheVariants.{None, Reset, Powered}
-use Rattle.request.specs.declared.verdict.Verdict.{Verdict}
-use Rattle.request.specs.declared.verdict.Verdict.TheVariants as verdict
-use Rattle.request.specs.Verdict.{command_of, by_row, by_property, by_command, verdict as verdict_of}
+use Rattle.std.specs.Prelude.{Result, Ok, Err}
+use Rattle.request.specs.declared.verdict.Request.{Request}
+use Rattle.request.specs.declared.verdict.Request.TheVariants as request
+use Rattle.request.specs.declared.verdict.Refusal.{Refusal}
+use Rattle.request.specs.Verdict.{command_of, verdict as verdict_of}
 use Rattle.request.proofs.LawsVerdict.{verdict_reach, verdict_reset}
-use Rattle.method.specs.declared.outcome.Outcome.{Outcome}
-use Rattle.method.specs.declared.outcome.Outcome.TheVariants.{Done, Refused}
-use Rattle.method.specs.declared.set.PayloadNumber.{PayloadNumber}
-use Rattle.method.specs.declared.set.PayloadNumber.TheVariants.{Good, Bad}
+use Rattle.method.specs.Outcome.{Outcome}
+use Rattle.property.specs.declared.status.Status.{Status}
 use Rattle.method.specs.Perform.{perform}
 use Rattle.method.specs.Set.{value_in, power_to, set_power, set_kind}
-use Rattle.method.proofs.LawsEffects.{Quiet, Still, perform_still}
+use Rattle.method.proofs.LawsEffects.{Still, perform_still}
 use Rattle.method.proofs.LawsNumbers.{value_told, within_most}
 use Rattle.command.specs.Decision.{concluded, reached, judged_by, judged, status_decision, decision_of, decide}
 use Rattle.command.specs.Effects.{is_reset, is_power, effect_of}
 
 -- ---- the octets of a reset and of a power setting give their verdicts
 
-pub reset_verdict : (b : List ℕ) → is_reset b ≡ true → verdict_of b ≡ verdict.Reset
-unfolding verdict_of by_command packed_at number_in is_reset
+pub reset_verdict : (b : List ℕ) → is_reset b ≡ true → verdict_of b ≡ Ok request.Reset
+unfolding verdict_of packed_at number_in is_reset
 reset_verdict [] t = impossible (eqb-true 0 1 t)
 reset_verdict (h ∷ []) t = impossible (eqb-true 0 1 t)
 reset_verdict (h ∷ c ∷ xs) t = let one : c ≡ 1 = eqb-true c 1 t in rw one
@@ -53,8 +52,8 @@ reset_verdict (h ∷ c ∷ xs) t = let one : c ≡ 1 = eqb-true c 1 t in rw one
 abbrev row7 : Row
 row7 = settable 7 scope.Device Power
 
-power_verdict : (h x : ℕ) → verdict_of (h ∷ 3 ∷ 7 ∷ x ∷ []) ≡ verdict.Reach Set row7 3
-unfolding verdict_of by_command by_property by_row command_of packed_at number_in rows lookup_in lookup allows
+power_verdict : (h x : ℕ) → verdict_of (h ∷ 3 ∷ 7 ∷ x ∷ []) ≡ Ok (request.Reach Set row7 3)
+unfolding verdict_of command_of packed_at number_in rows lookup allows
 power_verdict h x = refl
 
 from_power : (b : List ℕ) → is_power b ≡ true → (h : ℕ) × (x : ℕ) × (b ≡ h ∷ 3 ∷ 7 ∷ x ∷ []) × (x ≤ 4)
@@ -77,11 +76,11 @@ from_power b t =
 
 -- ---- commands without an effect
 
-quiet_decision : (v : View) (h : ℕ) (c : Command) (r : Row) (p : List ℕ) (l : Link) (o : Outcome) → Quiet o
-    → (decision_of v h (concluded v h c r p l o)).effect ≡ None
-unfolding decision_of concluded status_decision
-quiet_decision v h c r p l (Refused s) q = refl
-quiet_decision v h c r p l (Done e) q = q
+quiet_decision : (v : View) (h : ℕ) (c : Command) (r : Row) (p : List ℕ) (o : Outcome) → Still o
+    → (decision_of v h (concluded v h c r p o)).effect ≡ None
+unfolding decision_of concluded status_decision Still
+quiet_decision v h c r p (Err s) q = refl
+quiet_decision v h c r p (Ok d) q = q
 
 -- ---- a power setting that is accepted is one by its octets
 
@@ -92,7 +91,7 @@ set_number_lem n e =
     (λ t. by_test (eqb n 3) (λ u. eqb-true n 3 u)
     (λ u. by_test (eqb n 4) (λ w. let e' = rw (t, u, w) at e in impossible cc) (λ w. let e' = rw (t, u, w) at e in impossible cc)))
 
-good_value : (p : List ℕ) (x : ℕ) → value_in power_state p ≡ Good x → (length p ≡ 1) × (le p ≡ x) × (x ≤ 4)
+good_value : (p : List ℕ) (x : ℕ) → value_in power_state p ≡ Ok x → (length p ≡ 1) × (le p ≡ x) × (x ≤ 4)
 good_value p x e = let t = value_told power_state p x e in (t.0, t.1, within_most power_state x refl t.2)
 
 one_le : (xs : List ℕ) → length xs ≡ 1 → le xs ≡ get_or xs 0 0
@@ -101,8 +100,8 @@ one_le [] h = absurd (omega arith)
 one_le (x ∷ []) h = omega arith
 one_le (x ∷ y ∷ ys) h = absurd (omega arith)
 
-accepted : (b : List ℕ) (r : Row) (start x : ℕ) → verdict_of b ≡ verdict.Reach Set r start → r.kind ≡ Power
-    → value_in power_state (drop start b) ≡ Good x → is_power b ≡ true
+accepted : (b : List ℕ) (r : Row) (start x : ℕ) → verdict_of b ≡ Ok (request.Reach Set r start) → r.kind ≡ Power
+    → value_in power_state (drop start b) ≡ Ok x → is_power b ≡ true
 unfolding is_power
 accepted b r start x e k g =
     let t = verdict_reach b Set r start e in
@@ -129,10 +128,10 @@ power_effect v h x few =
     let same : x + 256 * 0 ≡ x = omega arith in
     rw (same, le-ltb 255 x (omega arith), le-ltb x 0 (omega arith), le-leb x 4 few)
 
-no_reset : (b : List ℕ) (w : Verdict) → verdict_of b ≡ w → (w ≡ verdict.Reset → ⊥) → is_reset b ≡ false
+no_reset : (b : List ℕ) (w : Result Request Refusal) → verdict_of b ≡ w → (w ≡ Ok request.Reset → ⊥) → is_reset b ≡ false
 no_reset b w e n = by_test (is_reset b) (λ t. absurd (n (sym e ∙ reset_verdict b t))) (λ t. t)
 
-no_power : (b : List ℕ) (w : Verdict) → verdict_of b ≡ w → (w ≡ verdict.Reach Set row7 3 → ⊥) → is_power b ≡ false
+no_power : (b : List ℕ) (w : Result Request Refusal) → verdict_of b ≡ w → (w ≡ Ok (request.Reach Set row7 3) → ⊥) → is_power b ≡ false
 no_power b w e n =
     by_test (is_power b)
     (λ t. let f = from_power b t in absurd (n (sym e ∙ ap verdict_of f.2 ∙ power_verdict f.0 f.1)))
@@ -147,17 +146,17 @@ unfolding effect_of is_reset
 a_reset b t = rw t
 
 set_power_lem : (v : View) (b : List ℕ) (r : Row) (start : ℕ)
-    → verdict_of b ≡ verdict.Reach Set r start → r.kind ≡ Power → is_power b ≡ false
+    → verdict_of b ≡ Ok (request.Reach Set r start) → r.kind ≡ Power → is_power b ≡ false
     → Still (perform v.link Set r.kind (drop start b))
 unfolding Still perform set_kind set_power
 set_power_lem v b r start e k n = rw k (by (value_in power_state (drop start b)) refl)
   where
-    by : (x : PayloadNumber) → value_in power_state (drop start b) ≡ x → Quiet (power_to v.link x).outcome
-    by (Bad s) g = unfold power_to in tt
-    by (Good x) g = impossible (cc (accepted b r start x e k g))
+    by : (x : Result ℕ Status) → value_in power_state (drop start b) ≡ x → Still (power_to v.link x)
+    by (Err s) g = unfold power_to in tt
+    by (Ok x) g = impossible (cc (accepted b r start x e k g))
 
 still_set : (v : View) (b : List ℕ) (r : Row) (start : ℕ) (k : Kind)
-    → r.kind ≡ k → verdict_of b ≡ verdict.Reach Set r start → is_power b ≡ false
+    → r.kind ≡ k → verdict_of b ≡ Ok (request.Reach Set r start) → is_power b ≡ false
     → Still (perform v.link Set r.kind (drop start b))
 still_set v b r start (ReadOnly f) k e n = perform_still _ Set _ _ (λ c p. impossible cc)
 still_set v b r start Power k e n = set_power_lem v b r start e k n
@@ -165,7 +164,7 @@ still_set v b r start (Kind-as-Number slot) k e n = perform_still _ Set _ _ (λ 
 still_set v b r start Name k e n = perform_still _ Set _ _ (λ c p. impossible cc)
 still_set v b r start Ports k e n = perform_still _ Set _ _ (λ c p. impossible cc)
 
-still_reach : (v : View) (b : List ℕ) (c : Command) (r : Row) (start : ℕ) → verdict_of b ≡ verdict.Reach c r start → is_power b ≡ false
+still_reach : (v : View) (b : List ℕ) (c : Command) (r : Row) (start : ℕ) → verdict_of b ≡ Ok (request.Reach c r start) → is_power b ≡ false
     → Still (perform v.link c r.kind (drop start b))
 still_reach v b Get r start e n = perform_still _ Get _ _ (λ c p. impossible cc)
 still_reach v b Set r start e n = still_set v b r start r.kind refl e n
@@ -173,33 +172,33 @@ still_reach v b Insert r start e n = perform_still _ Insert _ _ (λ c p. impossi
 still_reach v b Remove r start e n = perform_still _ Remove _ _ (λ c p. impossible cc)
 
 at_power : (v : View) (b : List ℕ) (c : Command) (r : Row) (start h x : ℕ)
-    → verdict_of b ≡ verdict.Reach c r start → b ≡ h ∷ 3 ∷ 7 ∷ x ∷ [] → x ≤ 4
+    → verdict_of b ≡ Ok (request.Reach c r start) → b ≡ h ∷ 3 ∷ 7 ∷ x ∷ [] → x ≤ 4
     → (decision_of v (header_of b) (reached v (header_of b) c r (drop start b))).effect ≡ Powered x
 at_power v b c r start h x e o few =
-    let same : verdict.Reach c r start ≡ verdict.Reach Set row7 3 = sym e ∙ ap verdict_of o ∙ power_verdict h x in
+    let same : Ok (request.Reach c r start) ≡ Ok (request.Reach Set row7 3) = sym e ∙ ap verdict_of o ∙ power_verdict h x in
     let command : c ≡ Set = cc in
     let row : r ≡ row7 = cc in
     let place : start ≡ 3 = cc in
     rw (o, command, row, place) (power_effect v h x few)
 
-effect_reach : (v : View) (b : List ℕ) (c : Command) (r : Row) (start : ℕ) → verdict_of b ≡ verdict.Reach c r start
+effect_reach : (v : View) (b : List ℕ) (c : Command) (r : Row) (start : ℕ) → verdict_of b ≡ Ok (request.Reach c r start)
     → (decision_of v (header_of b) (reached v (header_of b) c r (drop start b))).effect ≡ effect_of b
 unfolding reached Still effect_of
 effect_reach v b c r start e =
-    let n = no_reset b (verdict.Reach c r start) e (λ q. impossible cc) in
+    let n = no_reset b (Ok (request.Reach c r start)) e (λ q. impossible cc) in
     by_test (is_power b)
     (λ t. let f = from_power b t in
     let value : get_or b 3 0 ≡ f.1 = ap (λ ys. get_or ys 3 0) f.2 in
     rw (n, t) (at_power v b c r start f.0 f.1 e f.2 f.3 ∙ ap Powered (sym value)))
-    (λ t. rw (n, t) (quiet_decision v (header_of b) c r (drop start b) _ _ (still_reach v b c r start e t)))
+    (λ t. rw (n, t) (quiet_decision v (header_of b) c r (drop start b) _ (still_reach v b c r start e t)))
 
-effect_by : (v : View) (b : List ℕ) (w : Verdict) → verdict_of b ≡ w → (decision_of v (header_of b) (judged_by v b w)).effect ≡ effect_of b
+effect_by : (v : View) (b : List ℕ) (w : Result Request Refusal) → verdict_of b ≡ w → (decision_of v (header_of b) (judged_by v b w)).effect ≡ effect_of b
 unfolding judged_by decision_of status_decision
-effect_by v b (verdict.Refuse step s cause) e =
+effect_by v b (Err s) e =
     sym (none b (no_reset b _ e (λ q. impossible cc)) (no_power b _ e (λ q. impossible cc)))
-effect_by v b verdict.Noop e = sym (none b (no_reset b _ e (λ q. impossible cc)) (no_power b _ e (λ q. impossible cc)))
-effect_by v b verdict.Reset e = sym (a_reset b (eq-eqb _ _ (verdict_reset b e)))
-effect_by v b (verdict.Reach c r start) e = effect_reach v b c r start e
+effect_by v b (Ok request.Noop) e = sym (none b (no_reset b _ e (λ q. impossible cc)) (no_power b _ e (λ q. impossible cc)))
+effect_by v b (Ok request.Reset) e = sym (a_reset b (eq-eqb _ _ (verdict_reset b e)))
+effect_by v b (Ok (request.Reach c r start)) e = effect_reach v b c r start e
 
 pub decide_effect : (v : View) (b : List ℕ) → (decide v b).effect ≡ effect_of b
 unfolding decide judged

@@ -20,11 +20,12 @@ use Rattle.device.specs.declared.state.Link.{Link}
 use Rattle.device.proofs.StateRules.{LinkFacts, link_told, link_from}
 use Rattle.device.specs.declared.view.View.{View}
 use Rattle.request.specs.Verdict.{verdict as verdict_of}
-use Rattle.request.specs.declared.verdict.Verdict.{Verdict}
-use Rattle.request.specs.declared.verdict.Verdict.TheVariants as verdict
+use Rattle.std.specs.Prelude.{Result, Ok, Err}
+use Rattle.request.specs.declared.verdict.Request.{Request}
+use Rattle.request.specs.declared.verdict.Request.TheVariants as request
+use Rattle.request.specs.declared.verdict.Refusal.{Refusal}
 use Rattle.request.proofs.LawsVerdict.{verdict_reset}
-use Rattle.method.specs.declared.outcome.Outcome.{Outcome}
-use Rattle.method.specs.declared.outcome.Outcome.TheVariants.{Done, Refused}
+use Rattle.method.specs.Outcome.{Outcome}
 use Rattle.reply.specs.Reply.{status_reply, success_reply}
 use Rattle.command.specs.Decision.{with_status, Judged, stopped, noop, reset, success, judged, status_decision, decision_of, decide, concluded, reached, judged_by}
 use Rattle.command.specs.Effects.{is_reset}
@@ -60,19 +61,19 @@ by_judged v h noop t = (omega arith, omega arith)
 by_judged v h reset t = (omega arith, omega arith)
 by_judged v h (success e l reply) t = (t.2, t.3)
 
-concluded_header : (v : View) (h : ℕ) (c : Command) (r : Row) (p : List ℕ) (l : Link) (o : Outcome)
-    → header_of (decision_of v h (concluded v h c r p l o)).reply ≡ h
+concluded_header : (v : View) (h : ℕ) (c : Command) (r : Row) (p : List ℕ) (o : Outcome)
+    → header_of (decision_of v h (concluded v h c r p o)).reply ≡ h
 unfolding decision_of concluded status_decision status_reply success_reply
-concluded_header v h c r p l (Refused s) = refl
-concluded_header v h c r p l (Done e) = refl
+concluded_header v h c r p (Err s) = refl
+concluded_header v h c r p (Ok d) = refl
 
-header_by : (v : View) (b : List ℕ) (w : Verdict) → verdict_of b ≡ w → is_reset b ≡ false
+header_by : (v : View) (b : List ℕ) (w : Result Request Refusal) → verdict_of b ≡ w → is_reset b ≡ false
     → header_of (decision_of v (header_of b) (judged_by v b w)).reply ≡ header_of b
 unfolding decision_of judged_by reached status_decision status_reply is_reset
-header_by v b (verdict.Refuse step s cause) e n = refl
-header_by v b verdict.Noop e n = refl
-header_by v b verdict.Reset e n = impossible (cc (eq-eqb _ _ (verdict_reset b e)))
-header_by v b (verdict.Reach c r start) e n = concluded_header v (header_of b) c r (drop start b) _ _
+header_by v b (Err s) e n = refl
+header_by v b (Ok request.Noop) e n = refl
+header_by v b (Ok request.Reset) e n = impossible (cc (eq-eqb _ _ (verdict_reset b e)))
+header_by v b (Ok (request.Reach c r start)) e n = concluded_header v (header_of b) c r (drop start b) _
 
 pub decide_header : (v : View) (b : List ℕ) → header_of (decide v b).reply ≡ cond (is_reset b) spinel_header (header_of b)
 unfolding decide judged judged_by decision_of status_reply

@@ -16,12 +16,13 @@ use Rattle.device.specs.Rules.{settings_rule, link_rule}
 use Rattle.device.proofs.StateRules.{LinkFacts}
 use Rattle.device.specs.declared.view.View.{View}
 use Rattle.device.specs.View.{after}
-use Rattle.request.specs.declared.verdict.Verdict.{Verdict}
-use Rattle.request.specs.declared.verdict.Verdict.TheVariants as verdict
+use Rattle.std.specs.Prelude.{Result, Ok, Err}
+use Rattle.request.specs.declared.verdict.Request.{Request}
+use Rattle.request.specs.declared.verdict.Request.TheVariants as request
+use Rattle.request.specs.declared.verdict.Refusal.{Refusal}
 use Rattle.request.specs.Verdict.{verdict as verdict_of}
-use Rattle.request.proofs.LawsVerdict.{VerdictStatus, verdict_reach, verdict_status}
-use Rattle.method.specs.declared.outcome.Outcome.{Outcome}
-use Rattle.method.specs.declared.outcome.Outcome.TheVariants.{Done, Refused}
+use Rattle.request.proofs.LawsVerdict.{verdict_reach, refusal_told}
+use Rattle.method.specs.Outcome.{Outcome}
 use Rattle.method.specs.Perform.{perform}
 use Rattle.method.proofs.LinkKept.{perform_kept}
 use Rattle.reply.proofs.LawsReplies.{replied_size}
@@ -35,25 +36,23 @@ Sound v reset = Unit {0}
 Sound v (success e l reply) = LinkFacts l × (l.status ≡ v.link.status) × (3 ≤ length reply) × (length reply ≤ max_reply)
 
 module _ (v : View) (s : settings_rule v.settings ≡ true) (t : link_rule v.link ≡ true) where
-  concluded_sound : (h : ℕ) (c : Command) (r : Row) (p : List ℕ) (o : Outcome) → row_rule r ≡ true → (perform v.link c r.kind p).outcome ≡ o
-      → Sound v (concluded v h c r p (perform v.link c r.kind p).link o)
+  concluded_sound : (h : ℕ) (c : Command) (r : Row) (p : List ℕ) (o : Outcome) → row_rule r ≡ true → perform v.link c r.kind p ≡ o
+      → Sound v (concluded v h c r p o)
   unfolding concluded
-  concluded_sound h c r p (Refused x) rule e =
-      let kept = perform_kept v.link t c r.kind p (λ slot k. slot_below r slot k rule) in
-      rw e at kept.refusal
-  concluded_sound h c r p (Done x) rule e =
-      let kept = perform_kept v.link t c r.kind p (λ slot k. slot_below r slot k rule) in
-      let l = (perform v.link c r.kind p).link in
-      let size = replied_size (after v x l) h c r p (content_size v c r p x s t rule e) in
+  concluded_sound h c r p (Err x) rule e =
+      rw e at (perform_kept v.link t c r.kind p (λ slot k. slot_below r slot k rule))
+  concluded_sound h c r p (Ok d) rule e =
+      let kept = rw e at (perform_kept v.link t c r.kind p (λ slot k. slot_below r slot k rule)) in
+      let size = replied_size (after v d.effect d.link) h c r p (content_size v c r p d s t rule e) in
       (kept.facts, kept.same, size.0, size.1)
 
-  judged_by_lem : (b : List ℕ) (w : Verdict) → verdict_of b ≡ w → VerdictStatus w → Sound v (judged_by v b w)
+  judged_by_lem : (b : List ℕ) (w : Result Request Refusal) → verdict_of b ≡ w → Sound v (judged_by v b w)
   unfolding judged_by reached
-  judged_by_lem b (verdict.Refuse step x cause) e refusal = refusal
-  judged_by_lem b verdict.Noop e refusal = tt
-  judged_by_lem b verdict.Reset e refusal = tt
-  judged_by_lem b (verdict.Reach c r start) e refusal = concluded_sound (header_of b) c r (drop start b) _ (verdict_reach b c r start e).rule refl
+  judged_by_lem b (Err refusal) e = refusal_told refusal
+  judged_by_lem b (Ok request.Noop) e = tt
+  judged_by_lem b (Ok request.Reset) e = tt
+  judged_by_lem b (Ok (request.Reach c r start)) e = concluded_sound (header_of b) c r (drop start b) _ (verdict_reach b c r start e).rule refl
 
   pub judged_sound : (b : List ℕ) → Sound v (judged v b)
   unfolding judged
-  judged_sound b = judged_by_lem b (verdict_of b) refl (verdict_status b)
+  judged_sound b = judged_by_lem b (verdict_of b) refl

@@ -1,9 +1,9 @@
 -- A body on a link that is set up (01, Commands).
-use Rattle.std.specs.Prelude.{ℕ, List, ◌≡◌, drop}
+use Rattle.std.specs.Prelude.{ℕ, List, Result, Ok, Err, ◌≡◌, drop}
 use Rattle.octets.specs.Body.{header_of}
 use Rattle.octets.specs.Writing.{Wrote}
 use Rattle.property.specs.Commands.{spinel_header}
-use Rattle.property.specs.Status.{reset_status}
+use Rattle.property.specs.Status.{status_number, reset_status}
 use Rattle.property.specs.declared.commands.Command.{Command}
 use Rattle.property.specs.declared.row.Row.{Row}
 use Rattle.device.specs.declared.state.Link.{Link}
@@ -11,11 +11,11 @@ use Rattle.device.specs.declared.view.View.{View}
 use Rattle.device.specs.declared.view.Effect.{Effect}
 use Rattle.device.specs.declared.view.Effect.TheVariants as effect
 use Rattle.device.specs.View.{after}
-use Rattle.request.specs.declared.verdict.Verdict.{Verdict}
-use Rattle.request.specs.declared.verdict.Verdict.TheVariants as verdict
-use Rattle.request.specs.Verdict.{verdict as verdict_of}
-use Rattle.method.specs.declared.outcome.Outcome.{Outcome}
-use Rattle.method.specs.declared.outcome.Outcome.TheVariants.{Done, Refused}
+use Rattle.request.specs.declared.verdict.Request.{Request}
+use Rattle.request.specs.declared.verdict.Request.TheVariants as request
+use Rattle.request.specs.declared.verdict.Refusal.{Refusal}
+use Rattle.request.specs.Verdict.{status_of, verdict as verdict_of}
+use Rattle.method.specs.Outcome.{Outcome}
 use Rattle.method.specs.Perform.{perform}
 use Rattle.reply.specs.Reply.{status_reply, success_reply}
 use Rattle.command.specs.declared.decision.Decided.{Decided}
@@ -32,18 +32,18 @@ pub data Judged : Type 0 where
 abbrev pub performed : View → ℕ → Command → Row → List ℕ → Link → Effect → Judged
 performed v h c r p l e = success e l (success_reply (after v e l) h c r p)
 
-unfoldable pub concluded : View → ℕ → Command → Row → List ℕ → Link → Outcome → Judged
-concluded v h c r p l (Refused s) = stopped s
-concluded v h c r p l (Done e) = performed v h c r p l e
+unfoldable pub concluded : View → ℕ → Command → Row → List ℕ → Outcome → Judged
+concluded v h c r p (Err s) = stopped (status_number s)
+concluded v h c r p (Ok d) = performed v h c r p d.link d.effect
 
 unfoldable pub reached : View → ℕ → Command → Row → List ℕ → Judged
-reached v h c r p = concluded v h c r p (perform v.link c r.kind p).link (perform v.link c r.kind p).outcome
+reached v h c r p = concluded v h c r p (perform v.link c r.kind p)
 
-unfoldable pub judged_by : View → List ℕ → Verdict → Judged
-judged_by v b (verdict.Refuse step s cause) = stopped s
-judged_by v b verdict.Noop = noop
-judged_by v b verdict.Reset = reset
-judged_by v b (verdict.Reach c r start) = reached v (header_of b) c r (drop start b)
+unfoldable pub judged_by : View → List ℕ → Result Request Refusal → Judged
+judged_by v b (Err refusal) = stopped (status_of refusal)
+judged_by v b (Ok request.Noop) = noop
+judged_by v b (Ok request.Reset) = reset
+judged_by v b (Ok (request.Reach c r start)) = reached v (header_of b) c r (drop start b)
 
 unfoldable pub judged : View → List ℕ → Judged
 judged v b = judged_by v b (verdict_of b)

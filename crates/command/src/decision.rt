@@ -3,18 +3,16 @@ ghost use Rattle.std.specs.Prelude.{true, ◌≡◌, ◌≤◌, ◌<◌, length}
 ghost use Rattle.property.specs.Rule.{row_rule};
 ghost use Rattle.device.specs.State.{max_reply};
 ghost use Rattle.device.specs.Rules.{settings_rule, link_rule};
-ghost use Rattle.device.specs.View.{after};
-ghost use Rattle.reply.specs.Reply.{content, max_content};
-ghost use Rattle.command.specs.Decision.{Did, status_decision, decision_of, performed, reached, decide};
+ghost use Rattle.command.specs.Decision.{Did, status_decision, decision_of, reached, decide};
 
 use device::{Effect, Link, View};
-use method::{Outcome, perform_on};
-use property::{Command, Row, commands, status};
-use reply::{write_reply, write_status};
-use request::{Verdict, verdict_of};
+use method::{Performed, perform_on};
+use property::{Status, commands};
+use reply::{Asked, write_reply, write_status};
+use request::{Request, verdict_of};
 
 // The effect on the whole box, the link, and how many octets the reply has.
-#[derive(Clone, Copy)]
+#[derive(Clone, Copy, PartialEq, Eq)]
 pub struct Decided {
     pub effect: Effect,
     pub link: Link,
@@ -22,81 +20,68 @@ pub struct Decided {
 }
 
 // A status, which becomes the link's last one.
+#[tactic(auto, unfolding(crate::specs::Decision::status_decision))]
 fn report_status(link: Link, header: u8, status: u8, out: &mut [u8]) -> Decided
     requires { max_reply ≤ length out.old }
     ensures { Did (status_decision link header status) result out.old out.new }
 {
     let len = write_status(out, header, status);
-    let mut changed = link;
-    changed.status = status;
     Decided {
         effect: Effect::None,
-        link: changed,
+        link: Link { status, ..link },
         len,
     }
 }
 
-// The reply to a command that was performed.
-fn conclude(
-    view: View,
-    effect: Effect,
-    link: Link,
-    header: u8,
-    command: Command,
-    row: Row,
-    payload: &[u8],
-    out: &mut [u8],
-) -> Decided
-    requires rules { (settings_rule view.settings ≡ true) × (link_rule link ≡ true) × (row_rule row ≡ true) }
-    requires room { (max_reply ≤ length out.old) × (length (content (after view effect link) command row.kind payload.now) ≤ max_content) }
-    ensures { Did (decision_of view header (performed view header command row payload.now link effect)) result out.old out.new }
-{
-    let len = write_reply(out, view.after(effect, link), header, command, row, payload);
-    Decided { effect, link, len }
-}
-
 // Steps 6 to 8.
-fn reach(
-    view: View,
-    header: u8,
-    command: Command,
-    row: Row,
-    payload: &[u8],
-    out: &mut [u8],
-) -> Decided
-    requires { (settings_rule view.settings ≡ true) × (link_rule view.link ≡ true) × (row_rule row ≡ true) × (max_reply ≤ length out.old) }
-    ensures { Did (decision_of view header (reached view header command row payload.now)) result out.old out.new }
+#[tactic(auto, unfolding(crate::specs::Decision::reached, crate::specs::Decision::concluded, crate::specs::Decision::decision_of))]
+fn reach(view: View, asked: Asked, out: &mut [u8]) -> Decided
+    requires { (settings_rule view.settings ≡ true) × (link_rule view.link ≡ true) × (row_rule asked.row ≡ true) × (max_reply ≤ length out.old) }
+    ensures { Did (decision_of view asked.entry.header (reached view asked.entry.header asked.entry.command asked.entry.row asked.entry.payload.now)) result out.old out.new }
 {
-    let performed = perform_on(view.link, command, row, payload);
-    let outcome = performed.outcome;
-    let link = performed.link;
-    match outcome {
-        Outcome::Refused(status) => report_status(view.link, header, status, out),
-        Outcome::Done(effect) => conclude(view, effect, link, header, command, row, payload, out),
+    match perform_on(view.link, asked.command, asked.row, asked.payload) {
+        Err(refusal) => report_status(view.link, asked.header, refusal.number(), out),
+        Ok(Performed { effect, link }) => {
+            let len = write_reply(out, view.after(effect, link), asked);
+            Decided { effect, link, len }
+        }
     }
 }
 
 // Steps 2 to 8.
+#[tactic(auto, unfolding(crate::specs::Decision::decide, crate::specs::Decision::judged, crate::specs::Decision::judged_by, crate::specs::Decision::decision_of))]
 pub fn decide(view: View, body: &[u8], out: &mut [u8]) -> Decided
     requires { (settings_rule view.settings ≡ true) × (link_rule view.link ≡ true) × (0 < length body.now) × (max_reply ≤ length out.old) }
     ensures { Did (decide view body.now) result out.old out.new }
 {
     let header = body[0];
-    let link = view.link;
     match verdict_of(body) {
-        Verdict::Refuse(_, status, _) => report_status(link, header, status, out),
-        Verdict::Noop => report_status(link, header, 0, out),
-        Verdict::Reset => {
+        Err(refusal) => report_status(view.link, header, refusal.status().number(), out),
+        Ok(Request::Noop) => report_status(view.link, header, Status::Ok.number(), out),
+        Ok(Request::Reset) => {
             // The announcement has transaction 0 and link 0, whoever asked.
-            let len = write_status(out, commands::SPINEL_HEADER, status::RESET_SOFTWARE);
+            let announced = Status::ResetSoftware.number();
+            let len = write_status(out, commands::SPINEL_HEADER, announced);
             Decided {
                 effect: Effect::Reset,
-                link,
+                link: view.link,
                 len,
             }
         }
-        Verdict::Reach(command, row, start) => {
-            reach(view, header, command, row, &body[start..], out)
+        Ok(
+            Request::Reach {
+                command,
+                row,
+                start,
+            },
+        ) => {
+            let asked = Asked {
+                header,
+                command,
+                row,
+                payload: &body[start..],
+            };
+            reach(view, asked, out)
         }
     }
 }
