@@ -1,9 +1,16 @@
 -- Laws of chunks: the record at the front of one, and what is to come behind a head.
 use types.Run.{OneOf, miss}
 use denote.Enum.Declared.{tag_of}
-use mathlib.Core.Bool.{true, false, cond, ◌&&◌}
+use Rattle.std.specs.Prelude.{Option, Some, None, Result, Ok, Err}
+use Rattle.std.specs.Option.{option_flatten}
+use Rattle.std.specs.Result.{result_ok}
+use Rattle.capture.specs.declared.records.Record.{Record}
+use Rattle.capture.specs.declared.reading.ReadError.{ReadError}
+use Rattle.capture.specs.declared.reading.ReadError.TheVariants.{BadMark, CutOff, OutOfRange}
+use Rattle.capture.specs.contracts.reading.ReadError.{the_type as error_type}
+use mathlib.Core.Bool.{true, false, ◌&&◌}
 use mathlib.Core.Path.{◌≡◌, refl, sym, ap, ◌∙◌}
-use mathlib.Core.List.{List, [], ◌∷◌, ◌++◌, map}
+use mathlib.Core.List.{List, [], ◌∷◌, ◌++◌}
 use Prim.Native.Nat.{ℕ, ◌+◌, ◌≤◌}
 use native.Mathlib.Omega.{arith}
 use borrow.Author.Tests.{eq-eqb, ne_eqb, eqb-true, eqb-false}
@@ -12,13 +19,9 @@ use lib.ListN.{length, take, drop, length-take, take-append-drop}
 use lib.Seq.{take-take, take_at, length-take-le}
 use Rattle.octets.specs.Body.{max_body}
 use Rattle.octets.proofs.LawsTests.{by_test, chosen, both_told, impossible}
-use Rattle.capture.specs.declared.records.Record.{Record}
-use Rattle.capture.specs.declared.reading.Found.{Found}
-use Rattle.capture.specs.declared.reading.Found.TheVariants.{At, NoMore, BadMark, CutOff, OutOfRange}
-use Rattle.capture.specs.Records.{head_size, is_in_range}
-use Rattle.capture.specs.Reading.{one, no_record, reported, has_mark, direction_in, length_in, read_front, read_at}
+use Rattle.capture.specs.Records.{head_size, is_in_range, Located, located}
+use Rattle.capture.specs.Reading.{number_of, Report, one, no_record, reported, has_mark, direction_in, length_in, read_front, read_at}
 use Rattle.capture.specs.Logs.{entry_of}
-use Rattle.capture.specs.contracts.reading.Found.{the_type as found_type}
 use Rattle.capture.proofs.LawsRecords.{range_told}
 use Rattle.capture.proofs.LawsReading.{front_mark, front_range, length_then, Front}
 use Rattle.capture.proofs.OneRecord.{at_front}
@@ -27,21 +30,22 @@ use Rattle.replay.specs.Chunks.{body_left, IsChunk, entry_in}
 -- ---- a chunk that was read
 
 module _ (xs : List ℕ) where
-  pub there : {r : Record} → read_at xs 0 ≡ one r → entry_in xs ≡ entry_of xs r ∷ []
+  pub there : {r : Located} → read_at xs 0 ≡ one r → entry_in xs ≡ entry_of xs r ∷ []
   unfolding entry_in
   there e = rw (sym (at_front xs) ∙ e)
 
-  none_there : (f : Found) → OneOf (1 ∷ 2 ∷ 3 ∷ 4 ∷ []) (tag_of found_type f) → map (entry_of xs) (reported f).found ≡ []
-  none_there (At r) o = absurd (miss (1 ∷ 2 ∷ 3 ∷ 4 ∷ []) 0 tt o)
-  none_there NoMore o = refl
-  none_there BadMark o = refl
-  none_there CutOff o = refl
-  none_there OutOfRange o = refl
-
-  -- the `else` of a `let` tells that the tag is one of the others
-  pub not_there : (f : Found) → reported f ≡ read_at xs 0 → OneOf (1 ∷ 2 ∷ 3 ∷ 4 ∷ []) (tag_of found_type f) → entry_in xs ≡ []
+  -- what the code makes of an answer: the record, or none
+  pub none_there : (a : Result (Option Record) ReadError) → reported a ≡ read_at xs 0 → option_flatten (result_ok a) ≡ None → entry_in xs ≡ []
   unfolding entry_in
-  not_there f e o = ap (λ q. map (entry_of xs) q.found) (sym (at_front xs) ∙ sym e) ∙ none_there f o
+  none_there (Ok None) e f = rw (sym (at_front xs) ∙ sym e)
+  none_there (Ok (Some r)) e f = cc
+  none_there (Err x) e f = rw (sym (at_front xs) ∙ sym e)
+
+  pub one_there : (a : Result (Option Record) ReadError) {r : Record} → reported a ≡ read_at xs 0 → option_flatten (result_ok a) ≡ Some r
+      → read_at xs 0 ≡ one (located r)
+  one_there (Ok None) e f = cc
+  one_there (Ok (Some q)) {r} e f = let same : q ≡ r = cc in sym e ∙ ap (λ x. one (located x)) same
+  one_there (Err x) e f = cc
 
 -- ---- what is to come behind a head
 
@@ -50,24 +54,27 @@ module _ (xs : List ℕ) where
   unfolding body_left
   left_no_head h = rw (ne_eqb (length xs) head_size h)
 
+  -- by another number none
+  left_none : {n : ℕ} → (read_front xs).number ≡ n → eqb n 22 ≡ false → body_left xs ≡ 0
+  unfolding body_left
+  left_none e o = by_test (eqb (length xs) head_size) (λ t. rw (t, e, o)) (λ t. rw t)
+
+  numbered : {q : Report} → q ≡ read_at xs 0 → (read_front xs).number ≡ q.number
+  numbered e = ap (λ q. q.number) (sym (at_front xs) ∙ sym e)
+
+  pub left_other : (e : ReadError) → no_record (number_of e) ≡ read_at xs 0 → OneOf (0 ∷ 2 ∷ []) (tag_of error_type e) → body_left xs ≡ 0
+  left_other BadMark e o = left_none (numbered e) refl
+  left_other CutOff e o = absurd (miss (0 ∷ 2 ∷ []) 1 tt o)
+  left_other OutOfRange e o = left_none (numbered e) refl
+
+  pub left_found : (r : Option Record) → reported (Ok r) ≡ read_at xs 0 → body_left xs ≡ 0
+  left_found None e = left_none (numbered e) refl
+  left_found (Some r) e = left_none (numbered e) refl
+
   module _ (five : length xs ≡ head_size) where
-    -- by the number that the head is answered with
-    pub left_by : {n : ℕ} → (read_front xs).number ≡ n → body_left xs ≡ cond (eqb n 22) (length_in xs) 0
-    unfolding body_left
-    left_by e = rw (eq-eqb (length xs) head_size five, e)
-
     pub left_body : read_at xs 0 ≡ no_record 22 → body_left xs ≡ length_in xs
-    left_body e = left_by (ap (λ q. q.number) (sym (at_front xs) ∙ e))
-
-    other_number : (f : Found) → OneOf (0 ∷ 1 ∷ 2 ∷ 4 ∷ []) (tag_of found_type f) → eqb (reported f).number 22 ≡ false
-    other_number (At r) o = refl
-    other_number NoMore o = refl
-    other_number BadMark o = refl
-    other_number CutOff o = absurd (miss (0 ∷ 1 ∷ 2 ∷ 4 ∷ []) 3 tt o)
-    other_number OutOfRange o = refl
-
-    pub left_none : (f : Found) → reported f ≡ read_at xs 0 → OneOf (0 ∷ 1 ∷ 2 ∷ 4 ∷ []) (tag_of found_type f) → body_left xs ≡ 0
-    left_none f e o = left_by (ap (λ q. q.number) (sym (at_front xs) ∙ sym e)) ∙ rw (other_number f o)
+    unfolding body_left
+    left_body e = rw (eq-eqb (length xs) head_size five, numbered (sym e))
 
     -- a head that is cut off only behind itself is a good one
     good_head : eqb (read_front xs).number 22 ≡ true → is_in_range (direction_in xs) (length_in xs) ≡ true
@@ -105,7 +112,7 @@ unfolding body_left
 left_length xs =
     chosen (λ n. n ≤ length_in xs) (eqb (length xs) head_size && eqb (read_front xs).number 22) (λ _. omega arith) (λ _. omega arith)
 
-pub chunk_size : (xs : List ℕ) {r : Record} → IsChunk xs → Front xs r → length xs ≡ r.next
+pub chunk_size : (xs : List ℕ) {r : Located} → IsChunk xs → Front xs r → length xs ≡ r.next
 unfolding IsChunk
 chunk_size xs p f =
     let head : List ℕ = take head_size xs in

@@ -4,15 +4,16 @@ use mathlib.Core.Path.{◌≡◌, refl, sym, ap, ◌∙◌}
 use mathlib.Core.List.{List, [], ◌∷◌, ◌++◌, foldl-append}
 use Prim.Native.Nat.{ℕ, ◌+◌}
 use lib.ListN.{length-append}
+use Rattle.std.specs.Prelude.{Bool, Option}
 use Rattle.octets.proofs.LawsTests.{impossible}
 use Rattle.capture.specs.Records.{Entry}
-use Rattle.replay.specs.declared.run.Turn.{Turn}
+use Rattle.replay.specs.declared.play.Playback.{Playback}
 use Rattle.replay.specs.Play.{State, state_of, after_all}
 use Rattle.replay.specs.Chunks.{IsChunk, entry_in, is_none, after_chunk}
-use Rattle.replay.specs.Run.{Turned, AllRecords, none, more, Ran}
+use Rattle.replay.specs.Run.{has_ended, Turned, AllRecords, none, more, Ran}
 
-pub ran_none : (s : State) (t : Turn) → state_of t.playback ≡ s → Ran s t 0
-ran_none s t e = record { chunks = []; all = none; count = refl; left = e }
+pub ran_none : (s : State) → Ran s s 0
+ran_none s = record { chunks = []; all = none; count = refl; left = refl }
 
 records_then : {xss : List (List ℕ)} (xs : List ℕ) → AllRecords xss → IsChunk xs → is_none (entry_in xs) ≡ false → AllRecords (xss ++ (xs ∷ []))
 records_then xs none p r = more p r none
@@ -23,24 +24,24 @@ unfolding after_all
 stays s [] e = refl
 stays s (a ∷ es) e = impossible (cc e)
 
-module _ (s : State) (t u : Turn) (xs : List ℕ) (n : ℕ) (r : Ran s t n) (w : Turned (state_of t.playback) u xs) where
+module _ (s t : State) (p : Playback) {line : Option (Option Bool)} (xs : List ℕ) (n : ℕ) (r : Ran s t n) (w : Turned t p line xs) where
   -- a record more
-  pub ran_next : IsChunk xs → u.ended ≡ false → Ran s u (n + 1)
-  ran_next p on =
+  pub ran_next : IsChunk xs → has_ended line ≡ false → Ran s (state_of p) (n + 1)
+  ran_next f on =
       record {
         chunks = r.chunks ++ (xs ∷ []);
-        all = records_then xs r.all p (sym w.ended ∙ on);
+        all = records_then xs r.all f (sym w.ended ∙ on);
         count = length-append r.chunks (xs ∷ []) ∙ ap (λ k. k + 1) r.count;
         left = w.state ∙ ap (λ z. after_chunk z xs) r.left ∙ sym (foldl-append after_chunk s r.chunks (xs ∷ []));
       }
 
   -- a chunk that is no record leaves the box as it stands
-  pub ran_last : u.ended ≡ true → Ran s u n
+  pub ran_last : has_ended line ≡ true → Ran s (state_of p) n
   unfolding after_chunk
   ran_last off =
       record {
         chunks = r.chunks;
         all = r.all;
         count = r.count;
-        left = w.state ∙ stays (state_of t.playback) (entry_in xs) (sym w.ended ∙ off) ∙ r.left;
+        left = w.state ∙ stays t (entry_in xs) (sym w.ended ∙ off) ∙ r.left;
       }

@@ -28,7 +28,7 @@ some_front xs e = by_case (front_case xs) e
   where
     by_case : {q : Report} → FrontCase xs q → is_none (map (entry_of xs) q.found) ≡ false → Front xs (record_in xs)
     by_case (nothing n) e = impossible (cc e)
-    by_case (found h m g l) e = record { is = refl; head = h; mark = m; range = g; inside = l }
+    by_case (found f) e = f
 
 -- one with none is the end of a log, or its fault
 none_last : (xs : List ℕ) → is_none (entry_in xs) ≡ true → (entries_in xs).entries ≡ []
@@ -37,7 +37,7 @@ none_last xs e = by_case (front_case xs) refl e
   where
     by_case : {q : Report} → FrontCase xs q → read_front xs ≡ q → is_none (map (entry_of xs) q.found) ≡ true → (entries_in xs).entries ≡ []
     by_case (nothing n) p e = ap (λ q. q.entries) (entries_end xs p)
-    by_case (found h m g l) p e = impossible (cc e)
+    by_case (found f) p e = impossible (cc e)
 
 -- a chunk that is a record, and whatever octets came behind it
 chunk_then : (xs ys : List ℕ) → IsChunk xs → is_none (entry_in xs) ≡ false

@@ -1,6 +1,6 @@
 -- A log's records replayed (02, T-05): "A program replays a log's to-box records from standard input through 01's program box and prints a line
 -- for each from-box record: `yes` if the record just before is to-box and this is its reply, else `no`."
-use Rattle.std.specs.Prelude.{Bool, true, false, cond, ◌≡◌, ℕ, ◌/◌, ◌≤◌, eqb, length, take}
+use Rattle.std.specs.Prelude.{Bool, true, cond, Option, Some, None, ◌≡◌, ℕ, ◌/◌, ◌≤◌, eqb, length, take}
 use mathlib.Core.List.{List, [], ◌∷◌, ◌++◌, foldl}
 use Rattle.octets.specs.Body.{header_of}
 use Rattle.octets.specs.Comparing.{is_same}
@@ -10,8 +10,6 @@ use Rattle.device.specs.Rules.{rules}
 use Rattle.device.specs.declared.state.Device.{Device}
 use Rattle.engine.specs.Engine.{engine}
 use Rattle.engine.specs.Merged.{device_after}
-use Rattle.replay.specs.declared.play.Line.{Line}
-use Rattle.replay.specs.declared.play.Line.TheVariants.{Nothing, Yes, No}
 use Rattle.replay.specs.declared.play.Playback.{Playback}
 
 -- ---- between two records
@@ -44,11 +42,10 @@ next s e = cond (eqb e.direction to_box) (delivered s.device e.body) (silent s.d
 unfoldable pub line_for : State → Entry → List Bool
 line_for s e = cond (eqb e.direction to_box) [] (is_same s.reply e.body ∷ [])
 
--- the same of the code's line
-abbrev pub yes_or_no : Line → List Bool
-yes_or_no Nothing = []
-yes_or_no Yes = true ∷ []
-yes_or_no No = false ∷ []
+-- the same of what the code gives: whether a record from the box is the reply
+abbrev pub yes_or_no : Option Bool → List Bool
+yes_or_no None = []
+yes_or_no (Some is_reply) = is_reply ∷ []
 
 -- ---- records one after the other
 

@@ -1,8 +1,8 @@
 -- The program's chunks, one after the other.
-use Rattle.std.specs.Prelude.{true, false, ◌⊎◌, ◌≡◌, ℕ, length}
+use Rattle.std.specs.Prelude.{Bool, true, false, Option, Some, None, Result, IsErr, ◌⊎◌, ◌≡◌, ℕ, length, take}
+use Rattle.std.specs.declared.io.Error.{Error}
 use mathlib.Core.List.{List, [], ◌∷◌, foldl}
-use Rattle.replay.specs.declared.run.Turn.{Turn}
-use Rattle.replay.specs.declared.run.Progress.{Progress}
+use Rattle.replay.specs.declared.play.Playback.{Playback}
 use Rattle.replay.specs.Play.{State, state_of, Keeps, yes_or_no}
 use Rattle.replay.specs.Chunks.{IsChunk, entry_in, is_none, after_chunk, chunk_lines}
 
@@ -10,13 +10,27 @@ use Rattle.replay.specs.Chunks.{IsChunk, entry_in, is_none, after_chunk, chunk_l
 abbrev pub max_chunks : ℕ
 max_chunks = 18446744073709551615
 
+-- what a turn gives: nothing where its chunk is no record, else what the record gives
+abbrev pub has_ended : Option (Option Bool) → Bool
+has_ended None = true
+has_ended (Some l) = false
+
+abbrev pub line_of : Option (Option Bool) → List Bool
+line_of None = []
+line_of (Some l) = yes_or_no l
+
 -- a turn on a chunk: the box after it, the line for it, and whether it is no record
-pub record Turned (s : State) (t : Turn) (xs : List ℕ) : Type 0 where
-  pub keeps : Keeps t.playback
-  pub state : state_of t.playback ≡ after_chunk s xs
-  pub line : yes_or_no t.line ≡ chunk_lines s xs
-  pub ended : t.ended ≡ is_none (entry_in xs)
-  pub read : t.read ≡ length xs
+pub record Turned (s : State) (p : Playback) (t : Option (Option Bool)) (xs : List ℕ) : Type 0 where
+  pub keeps : Keeps p
+  pub state : state_of p ≡ after_chunk s xs
+  pub line : line_of t ≡ chunk_lines s xs
+  pub ended : has_ended t ≡ is_none (entry_in xs)
+
+-- a turn on a chunk that was read to the front of a space
+pub record Took (s : State) (p : Playback) (t : Option (Option Bool)) (space : List ℕ) : Type 0 where
+  pub read : ℕ
+  pub chunk : IsChunk (take read space)
+  pub turned : Turned s p t (take read space)
 
 -- chunks that are records
 pub data AllRecords : List (List ℕ) → Type 0 where
@@ -24,21 +38,20 @@ pub data AllRecords : List (List ℕ) → Type 0 where
   more : {xs : List ℕ} {xss : List (List ℕ)} → IsChunk xs → is_none (entry_in xs) ≡ false → AllRecords xss → AllRecords (xs ∷ xss)
 
 -- the box stands where so many chunks leave it, all of them records. Which chunks came is the operating system's part
-pub record Ran (s : State) (t : Turn) (n : ℕ) : Type 0 where
+pub record Ran (s t : State) (n : ℕ) : Type 0 where
   pub chunks : List (List ℕ)
   pub all : AllRecords chunks
   pub count : length chunks ≡ n
-  pub left : state_of t.playback ≡ foldl after_chunk s chunks
+  pub left : t ≡ foldl after_chunk s chunks
 
--- the chunk behind them is no record: the log ends there, or is at fault
-pub record NoRecord (t : Turn) : Type 0 where
-  pub last : List ℕ
-  pub fits : IsChunk last
-  pub none : is_none (entry_in last) ≡ true
-  pub read : t.read ≡ length last
+-- the chunk behind them, which is at the front of the space, is no record: the log ends there, or is at fault
+pub record NoRecord (space : List ℕ) : Type 0 where
+  pub read : ℕ
+  pub fits : IsChunk (take read space)
+  pub none : is_none (entry_in (take read space)) ≡ true
 
 -- the program ends at the first chunk that is no record, when a line could not be written, or after all its chunks
-pub record Ended (s : State) (p : Progress) : Type 0 where
+pub record Ended (s : State) (p : Playback) (r : Result Unit Error) (space : List ℕ) : Type 0 where
   pub turns : ℕ
-  pub ran : Ran s p.turn turns
-  pub why : NoRecord p.turn ⊎ ((p.stopped ≡ true) ⊎ (turns ≡ max_chunks))
+  pub ran : Ran s (state_of p) turns
+  pub why : NoRecord space ⊎ (IsErr r ⊎ (turns ≡ max_chunks))

@@ -3,7 +3,7 @@
 ghost use Rattle.std.specs.Prelude.{◌≡◌, ◌≤◌, length, take};
 ghost use Rattle.replay.specs.Chunks.{body_left, max_record, IsChunk};
 
-use capture::{Found, Record, read_record};
+use capture::{ReadError, Record, read_record};
 use octets::read_le;
 use std::io::Stdin;
 use streams::read_full;
@@ -12,23 +12,22 @@ use streams::read_full;
 fn body_left(octets: &[u8]) -> usize
     ensures { result ≡ body_left octets.now }
 {
-    if octets.len() != Record::HEAD_SIZE {
-        return 0;
+    match read_record(octets, 0) {
+        Err(ReadError::CutOff) if octets.len() == Record::HEAD_SIZE => {
+            read_le(octets, 3, 2) as usize
+        }
+        _ => 0,
     }
-    if let Found::CutOff = read_record(octets, 0) {
-        return read_le(octets, 3, 2) as usize;
-    }
-    0
 }
 
 // Reads the next record to the front of the space, and no octet of the one behind it. Returns how many octets came: fewer where the input ends
 // or a read fails, and only five where they are no good head.
-pub fn read_chunk(mut stdin: Stdin, space: &mut [u8]) -> usize
+pub fn read_chunk(stdin: &mut Stdin, space: &mut [u8]) -> usize
     requires { length space.old ≡ max_record }
     ensures room { result ≤ length space.new }
     ensures chunk { IsChunk (take result space.new) }
 {
-    let head = read_full(&mut stdin, &mut space[..Record::HEAD_SIZE]);
+    let head = read_full(stdin, &mut space[..Record::HEAD_SIZE]);
     let end = head + body_left(&space[..head]);
-    head + read_full(&mut stdin, &mut space[head..end])
+    head + read_full(stdin, &mut space[head..end])
 }
