@@ -1,26 +1,12 @@
--- Laws of the frame check: its register as the code's loop goes, and that the check fits its two octets.
-use mathlib.Core.Path.{◌≡◌, ap}
+-- Laws of the frame check: it fits its two octets.
 use mathlib.Core.List.{List, [], ◌∷◌}
-use Prim.Native.Nat.{ℕ, zero, suc, ◌+◌, ◌/◌, ◌%◌, ◌<◌, ◌≤◌}
+use Prim.Native.Nat.{ℕ, zero, suc, ◌/◌, ◌%◌, ◌<◌}
 use native.Mathlib.Omega.{arith}
 use lib.Dec.{eqb}
 use lib.Bits.{bit_xor, xor_lt}
-use lib.ListN.{length, get_or, drop, drop_of_length-le}
 use Rattle.octets.specs.Octets.{Octets}
-use Rattle.octets.proofs.LawsLists.{drop_next}
 use Rattle.octets.proofs.LawsTests.{by_test}
 use Rattle.frame.specs.Fcs.{fcs_bit, fcs_bits, fcs_octet, fcs_from, fcs}
-
-pub from_next : (r : ℕ) (xs : List ℕ) (i : ℕ) → i < length xs
-    → fcs_from r (drop i xs) ≡ fcs_from (fcs_octet r (get_or xs i 0)) (drop (i + 1) xs)
-unfolding fcs_from
-from_next r xs i h = ap (fcs_from r) (drop_next xs i h)
-
-pub from_done : (r : ℕ) (xs : List ℕ) (i : ℕ) → length xs ≤ i → fcs_from r (drop i xs) ≡ r
-unfolding fcs_from
-from_done r xs i h = ap (fcs_from r) (drop_of_length-le xs h)
-
--- ---- the check is below 65,536
 
 bit_bound : (r : ℕ) → r < 65536 → fcs_bit r < 65536
 unfolding fcs_bit

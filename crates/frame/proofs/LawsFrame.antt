@@ -1,40 +1,17 @@
 -- Laws of written frames: octets as they are sent, one by one, and a frame in the order in which it is written.
-use denote.Enum.Bare.{sameb}
-use mathlib.Core.Bool.{true, false}
 use mathlib.Core.Path.{◌≡◌, ap, ◌∙◌}
 use mathlib.Core.List.{List, [], ◌∷◌, ◌++◌, append_assoc}
 use Prim.Native.Nat.{ℕ, ◌+◌, ◌<◌, ◌≤◌}
 use native.Mathlib.Omega.{arith}
-use lib.Bits.{bit_xor}
-use lib.ListN.{length, get_or, drop, length-append, drop_of_length-le}
+use lib.ListN.{length, get_or, drop, length-append}
 use Rattle.octets.specs.LittleEndian.{le_octets}
 use Rattle.octets.specs.Writing.{Wrote}
 use Rattle.octets.proofs.LawsLists.{drop_next}
 use Rattle.octets.proofs.LawsLittleEndian.{length_le}
 use Rattle.octets.proofs.LawsRuns.{each_append}
 use Rattle.octets.proofs.LawsWriting.{front_count, front_held}
-use Rattle.frame.specs.declared.kind.OctetKind.{OctetKind}
-use Rattle.frame.specs.declared.kind.OctetKind.TheVariants.{Flag, Escape, Skipped, Plain}
-use Rattle.frame.specs.Kind.{kind_of}
 use Rattle.frame.specs.Fcs.{fcs}
 use Rattle.frame.specs.Frame.{sent, stuffed, with_check, frame, written, writing}
-use Rattle.frame.specs.contracts.kind.OctetKind.{the_type as kind-type}
-use Rattle.frame.proofs.LawsKinds.{kind_tests}
-
--- the test for a plain octet goes by the kind, and the form in which the octet is sent does too
-pub sent_plain : (k : OctetKind) (b : ℕ) → k ≡ kind_of b → sameb kind-type k Plain ≡ true → sent b ≡ b ∷ []
-unfolding sent
-sent_plain Flag b e h = absurd cc
-sent_plain Escape b e h = absurd cc
-sent_plain Skipped b e h = absurd cc
-sent_plain Plain b e h = let t = kind_tests b e in simp (t.flag, t.escape, t.skipped)
-
-pub sent_escaped : (k : OctetKind) (b : ℕ) → k ≡ kind_of b → sameb kind-type k Plain ≡ false → sent b ≡ 0x7d ∷ bit_xor b 0x20 ∷ []
-unfolding sent
-sent_escaped Flag b e h = let t = kind_tests b e in simp t.flag
-sent_escaped Escape b e h = let t = kind_tests b e in simp (t.flag, t.escape)
-sent_escaped Skipped b e h = let t = kind_tests b e in simp (t.flag, t.escape, t.skipped)
-sent_escaped Plain b e h = absurd cc
 
 stuffed_append : (xs ys : List ℕ) → stuffed (xs ++ ys) ≡ stuffed xs ++ stuffed ys
 unfolding stuffed
@@ -47,10 +24,6 @@ stuffed_next xs i h = ap stuffed (drop_next xs i h)
 pub stuffed_next_length : (xs : List ℕ) (i : ℕ) → i < length xs
     → length (stuffed (drop i xs)) ≡ length (sent (get_or xs i 0)) + length (stuffed (drop (i + 1) xs))
 stuffed_next_length xs i h = ap length (stuffed_next xs i h) ∙ length-append (sent (get_or xs i 0)) _
-
-pub stuffed_done : (xs : List ℕ) (i : ℕ) → length xs ≤ i → stuffed (drop i xs) ≡ []
-unfolding stuffed
-stuffed_done xs i h = ap stuffed (drop_of_length-le xs h)
 
 pub checked_length : (body : List ℕ) → length (with_check body) ≡ length body + 2
 unfolding with_check

@@ -1,13 +1,11 @@
 -- Laws of the octets' kinds.
-use mathlib.Core.Bool.{Bool, true, false}
-use mathlib.Core.Path.{◌≡◌, refl, sym, subst}
+use mathlib.Core.Bool.{Bool, false}
+use mathlib.Core.Path.{◌≡◌, sym, subst}
 use Prim.Native.Nat.{ℕ}
 use borrow.Author.Tests.{eqb-true}
 use lib.Dec.{eqb}
 use Rattle.octets.proofs.LawsTests.{by_test}
-use Rattle.frame.specs.declared.kind.OctetKind.{OctetKind}
-use Rattle.frame.specs.declared.kind.OctetKind.TheVariants.{Flag, Escape, Skipped, Plain}
-use Rattle.frame.specs.Kind.{is_flag, is_escape, is_skipped, kind_of}
+use Rattle.frame.specs.Kind.{is_flag, is_escape, is_skipped}
 
 -- the answers of the three tests
 pub record Tests (b : ℕ) (f e s : Bool) : Type 0 where
@@ -25,41 +23,3 @@ by_octet P flag escape xon xoff f8 plain b =
     (λ e2. by_test (eqb b 0x13) (λ e. subst P (sym (eqb-true b 0x13 e)) xoff)
     (λ e3. by_test (eqb b 0xf8) (λ e. subst P (sym (eqb-true b 0xf8 e)) f8)
     (λ e4. plain b (record { flag = e0; escape = e1; skipped = simp (e2, e3, e4) }))))))
-
--- ---- what a kind tells
-
-abbrev pub flags : OctetKind → Bool
-flags Flag = true
-flags Escape = false
-flags Skipped = false
-flags Plain = false
-
-abbrev pub escapes : OctetKind → Bool
-escapes Flag = false
-escapes Escape = true
-escapes Skipped = false
-escapes Plain = false
-
-abbrev pub skips : OctetKind → Bool
-skips Flag = false
-skips Escape = false
-skips Skipped = true
-skips Plain = false
-
-plain_kind : (b : ℕ) → Tests b false false false → kind_of b ≡ Plain
-unfolding kind_of
-plain_kind b t = simp (t.flag, t.escape, t.skipped)
-
-tests : (b : ℕ) → Tests b (flags (kind_of b)) (escapes (kind_of b)) (skips (kind_of b))
-unfolding kind_of is_flag is_escape is_skipped
-tests =
-    by_octet (λ b. Tests b (flags (kind_of b)) (escapes (kind_of b)) (skips (kind_of b)))
-    (record { flag = refl; escape = refl; skipped = refl })
-    (record { flag = refl; escape = refl; skipped = refl })
-    (record { flag = refl; escape = refl; skipped = refl })
-    (record { flag = refl; escape = refl; skipped = refl })
-    (record { flag = refl; escape = refl; skipped = refl })
-    (λ b t. subst (λ k. Tests b (flags k) (escapes k) (skips k)) (sym (plain_kind b t)) t)
-
-pub kind_tests : {k : OctetKind} (b : ℕ) → k ≡ kind_of b → Tests b (flags k) (escapes k) (skips k)
-kind_tests b e = subst (λ z. Tests b (flags z) (escapes z) (skips z)) (sym e) (tests b)

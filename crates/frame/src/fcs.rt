@@ -5,6 +5,7 @@ ghost use Rattle.frame.specs.Fcs.{fcs_table, fcs_octet, fcs};
 use crate::fcs_table::FCS_TABLE;
 
 // The register after one octet, which joins the low end: then the high octet moves down and meets the table's entry of the low one.
+#[tactic(auto, using(crate::proofs::FcsTable::one_lookup))]
 fn fcs_octet(register: u16, octet: u8, table: &[u16; 256]) -> u16
     requires { table.now ≡ fcs_table }
     ensures { result ≡ fcs_octet register octet }
@@ -14,6 +15,7 @@ fn fcs_octet(register: u16, octet: u8, table: &[u16; 256]) -> u16
 }
 
 // The check that is sent after the octets of a body.
+#[tactic(auto, unfolding(crate::specs::Fcs::fcs, crate::specs::Fcs::fcs_from))]
 pub fn fcs16(body: &[u8]) -> u16
     ensures { result ≡ fcs body.now }
 {

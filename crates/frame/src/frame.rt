@@ -9,6 +9,7 @@ use crate::kind::OctetKind;
 use octets::{write_le, write_octet};
 
 // One octet, escaped where it must be.
+#[tactic(auto, using(octets::proofs::LawsWriting::wrote_both), unfolding(crate::specs::Frame::sent, crate::specs::Kind::kind_of))]
 fn write_escaped(out: &mut [u8], at: usize, octet: u8) -> usize
     requires { at + length (sent octet) ≤ length out.old }
     ensures { Wrote out.old out.new at result (sent octet) }
@@ -21,6 +22,7 @@ fn write_escaped(out: &mut [u8], at: usize, octet: u8) -> usize
 }
 
 // Octets, each escaped where it must be.
+#[tactic(auto, using(crate::proofs::LawsFrame::stuffed_next), unfolding(crate::specs::Frame::stuffed))]
 fn write_stuffed(out: &mut [u8], at: usize, octets: &[u8]) -> usize
     requires { at + length (stuffed octets.now) ≤ length out.old }
     ensures { Wrote out.old out.new at result (stuffed octets.now) }

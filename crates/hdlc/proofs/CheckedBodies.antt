@@ -71,16 +71,6 @@ checked_count r a xs {n} {b = b} keeps room e =
     let size = ap (λ o. length o.state.assembly) e ∙ same_room r a xs keeps room in
     (body, omega (arith, length-take n b))
 
--- the last arm of a `match` tells that a fate is not 1
-pub other_unchecked : (f : Fate) → ((n : ℕ) → f ≡ Checked n → ⊥) → eqb (fate_number f) 1 ≡ false
-other_unchecked Unfinished other = refl
-other_unchecked (Checked n) other = absurd (other n refl)
-other_unchecked Short other = refl
-other_unchecked WrongCheck other = refl
-other_unchecked TooLong other = refl
-other_unchecked CutEscape other = refl
-other_unchecked BadHeader other = refl
-
 -- the `else` of an `if let` tells that the tag is one of the others: a fate that is not 1 has no body
 pub tag_unchecked : (f : Fate) (a : List ℕ) → OneOf (0 ∷ 2 ∷ 3 ∷ 4 ∷ 5 ∷ 6 ∷ []) (tag_of fate-type f) → (eqb (fate_number f) 1 ≡ false) × (body_in f a ≡ [])
 tag_unchecked Unfinished a o = (refl, refl)

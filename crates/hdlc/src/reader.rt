@@ -103,7 +103,7 @@ impl Reader {
     }
 
     // The fate that a flag gives, `Unfinished` where no frame ends.
-    #[tactic(auto, unfolding(crate::specs::Reader::flag_fate))]
+    #[tactic(auto, using(crate::proofs::LawsFates::fated_front), unfolding(crate::specs::Reader::flag_fate))]
     fn flag_fate(self, assembly: &[u8]) -> Fate
         requires { self.count ≤ length assembly.now }
         ensures { fated result assembly.now ≡ flag_fate (assembling self assembly.now) }
@@ -156,6 +156,7 @@ impl Reader {
     }
 
     // One octet: the fate that it decides, and the reader after it.
+    #[tactic(auto, unfolding(crate::specs::Reader::fate_at, crate::specs::Reader::after_octet, frame::specs::Kind::kind_of, frame::specs::Kind::is_flag, frame::specs::Kind::is_escape, frame::specs::Kind::is_skipped))]
     fn read_octet(self, octet: u8, assembly: &mut [u8]) -> Step
         requires { (self.count ≤ max_gathered) × (max_gathered ≤ length assembly.old) }
         ensures { (fated result.fate assembly.new ≡ fate_at (assembling self assembly.old) octet)
@@ -183,6 +184,7 @@ impl Reader {
 }
 
 // The fate of gathered octets that are not too many and not cut in an escape.
+#[tactic(auto, using(crate::proofs::LawsFates::header_gathered), unfolding(crate::specs::Reader::frame_fate, crate::specs::Reader::headed, crate::specs::Reader::check_of, crate::specs::Reader::body_of))]
 fn frame_fate(gathered: &[u8]) -> Fate
     ensures { fated result gathered.now ≡ frame_fate gathered.now }
 {

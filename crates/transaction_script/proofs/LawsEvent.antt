@@ -21,13 +21,6 @@ use Rattle.transaction_script.specs.Line.{max_text}
 
 -- ---- words
 
-common_within : (xs ys : List ℕ) → common_front xs ys ≤ length xs
-unfolding common_front
-common_within [] ys = omega arith
-common_within (x ∷ xs) [] = omega arith
-common_within (x ∷ xs) (y ∷ ys) =
-    chosen (λ (n : ℕ). n ≤ suc (length xs)) (eqb x y) (λ t. omega (arith, common_within xs ys)) (λ t. omega arith)
-
 -- in the library's words
 pub starts_is : (text word : List ℕ) → starts_with text word ≡ pointwise eqb (take (length word) text) word
 unfolding starts_with common_front
@@ -35,11 +28,6 @@ starts_is [] [] = refl
 starts_is [] (y ∷ ys) = rw eqb-zero-suc
 starts_is (x ∷ xs) [] = refl
 starts_is (x ∷ xs) (y ∷ ys) = by_test (eqb x y) (λ t. simp (t, eqb-suc-suc) (starts_is xs ys)) (λ t. simp (t, eqb-zero-suc))
-
--- a text is as long as the word that it starts with
-pub starts_room : (text word : List ℕ) → starts_with text word ≡ true → length word ≤ length text
-unfolding starts_with
-starts_room text word t = omega (arith, eqb-true (common_front text word) (length word) t, common_within text word)
 
 common_take : (n : ℕ) (xs ys : List ℕ) → length ys ≤ n → common_front (take n xs) ys ≡ common_front xs ys
 unfolding common_front

@@ -8,6 +8,3 @@ use Rattle.octets.proofs.LawsLists.{drop_next}
 module _ {S : Type 0} (take-one : S → ℕ → S) (s : S) (xs : List ℕ) (i : ℕ) where
   pub take_next : i < length xs → foldl take-one (take-one s (get_or xs i 0)) (drop (i + 1) xs) ≡ foldl take-one s (drop i xs)
   take_next h = ap (foldl take-one s) (sym (drop_next xs i h))
-
-  pub none_left : length xs ≤ i → s ≡ foldl take-one s (drop i xs)
-  none_left h = ap (foldl take-one s) (sym (drop_of_length-le xs {i = i} h))

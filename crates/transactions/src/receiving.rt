@@ -57,6 +57,7 @@ fn breaks_rules(table: Table, reader: Reader) -> bool
 
 // Reads to the first fate, and tells the table a checked body. Takes any table, any reader, any input and any buffer; a refused call reads
 // nothing and hands both states back.
+#[tactic(auto, unfolding(crate::specs::Receiving::receive, crate::specs::Receiving::unrefused, crate::specs::Receiving::breaks_rules))]
 pub fn receive(table: Table, reader: Reader, input: &[u8], assembly: &mut [u8]) -> Received
     ensures { reception_of result assembly.new ≡ receive (numbers_of table) reader input.now assembly.old }
 {

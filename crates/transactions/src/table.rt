@@ -29,6 +29,7 @@ impl Table {
     pub const MAX_NUMBER: u8 = 15;
 
     // All numbers are free, and no reset is under way.
+    #[tactic(auto, unfolding(crate::specs::Table::numbers_of, crate::specs::Table::marks_of, crate::specs::NumberSet::digits))]
     pub fn fresh() -> Table
         ensures { numbers_of result ≡ fresh }
     {
@@ -69,6 +70,7 @@ impl Table {
     }
 
     // A number for a question, which is to be sent at once. A host that cannot send it keeps the table that it had before.
+    #[tactic(auto, unfolding(crate::specs::Table::after_open, crate::specs::Table::numbers_of))]
     pub fn open(self) -> Step
         ensures { result_of result ≡ after_open (numbers_of self) }
     {
@@ -91,6 +93,7 @@ impl Table {
     }
 
     // Leave to send one reset. A host that cannot send it keeps the table that it had before.
+    #[tactic(auto, unfolding(crate::specs::Table::after_reset, crate::specs::Table::numbers_of))]
     pub fn reset(self) -> Step
         ensures { result_of result ≡ after_reset (numbers_of self) }
     {
@@ -110,6 +113,7 @@ impl Table {
     }
 
     // Nobody waits for the reply to this number any more.
+    #[tactic(auto, unfolding(crate::specs::Table::after_give_up))]
     pub fn give_up(self, number: u8) -> Step
         ensures { result_of result ≡ after_give_up (numbers_of self) number }
     {
@@ -159,6 +163,7 @@ impl Table {
     }
 
     // A body that came from the box.
+    #[tactic(auto, using(crate::proofs::LawsKind::reply_below), unfolding(crate::specs::Table::after_reply))]
     pub fn reply(self, body: &[u8]) -> Step
         ensures { result_of result ≡ after_reply (numbers_of self) body.now }
     {

@@ -28,6 +28,7 @@ fn is_sendable(link: u8, number: u8, command: u32) -> bool
 }
 
 // Writes a body's frame where there is not room for every frame of its length. How long this one is shows when it is made, in a space of its own.
+#[tactic(auto, using(frame::proofs::FrameBounds::frame_bounds))]
 fn write_tight(body: &[u8], out: &mut [u8]) -> usize
     requires { IsBody body.now }
     ensures { written result out.new ≡ writing_fitting body.now out.old }
@@ -41,6 +42,7 @@ fn write_tight(body: &[u8], out: &mut [u8]) -> usize
 }
 
 // Writes a body's frame from the front of `out` where it fits, and returns how many octets it takes; else writes nothing and returns 0.
+#[tactic(auto, using(frame::proofs::FrameBounds::frame_bounds, crate::proofs::LawsWriting::fits_written))]
 fn write_fitting(body: &[u8], out: &mut [u8]) -> usize
     requires { IsBody body.now }
     ensures { written result out.new ≡ writing_fitting body.now out.old }

@@ -3,7 +3,6 @@ use mathlib.Core.Path.{sym, subst}
 use native.Mathlib.Omega.{arith}
 use lib.Seq.{length-take-le}
 use Rattle.octets.specs.Writing.{Wrote}
-use Rattle.frame.proofs.FrameBounds.{frame_bounds}
 use Rattle.transactions.proofs.LawsWriting.{Framed, framed, fits_not, fits}
 use Rattle.transactions.proofs.writing.write_tight.Goals as goal
 use Rattle.transactions.proofs.writing.write_tight.Goals.{After-write_frame-count}
@@ -11,10 +10,6 @@ use Rattle.transactions.proofs.writing.write_tight.Goals.{After-write_frame-coun
 made : (c : After-write_frame-count) → Framed c.args.body.now c.write_frame-count.result c.write_frame-count.new.out
 made c =
     framed c.args.body.now _ _ _ c.write_frame-count.ensures
-
-pub write_frame-count-requires : goal.write_frame-count-requires
-write_frame-count-requires c =
-    (c.requires, omega (arith, frame_bounds c.args.body.now, c.requires.1))
 
 pub returns-then-out-count : goal.returns-then-out-count
 returns-then-out-count c =
@@ -27,10 +22,6 @@ slice_bounds-space-end c =
 pub slice_bounds-write_octets-end : goal.slice_bounds-write_octets-end
 slice_bounds-write_octets-end c =
     sym (length-take-le _ _ (made (goal.at.slice_bounds-write_octets-end c).After-write_frame-count).inside)
-
-pub write_octets-requires : goal.write_octets-requires
-write_octets-requires c =
-    omega (arith, length-take-le c.write_frame-count.result c.write_frame-count.new.out (made (goal.at.write_octets-requires c).After-write_frame-count).inside, c.if-out-count.false)
 
 pub returns : goal.returns
 returns c =

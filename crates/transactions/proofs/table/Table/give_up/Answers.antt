@@ -5,13 +5,9 @@ use borrow.Author.Tests.{eqb-true}
 use Rattle.transactions.specs.Answer.{gave_up}
 use Rattle.transactions.specs.Table.{numbers_of, mark_at, is_waiting, done}
 use Rattle.transactions.proofs.LawsTable.{mark_at_lem, waits_alone, no_waits, not_waiting, mark_past, numbers_put}
-use Rattle.transactions.proofs.LawsCalls.{give_up_11, give_up_32, give_up_done}
+use Rattle.transactions.proofs.LawsCalls.{give_up_32, give_up_done}
 use Rattle.transactions.proofs.table.Table.give_up.Goals as goal
 use Rattle.transactions.proofs.table.Table.give_up.Goals.{then-number-gt-MAX_NUMBER-via-then-number-gt-MAX_NUMBER, then-number-gt-MAX_NUMBER-via-else-number-gt-MAX_NUMBER+then-not-has}
-
-pub returns-then-not-keeps_rules : goal.returns-then-not-keeps_rules
-returns-then-not-keeps_rules c =
-    c.refused.ensures ∙ sym (give_up_11 _ _ (sym c.keeps_rules.ensures ∙ c.if-not-keeps_rules.true))
 
 pub returns-then-number-gt-MAX_NUMBER : goal.returns-then-number-gt-MAX_NUMBER
 returns-then-number-gt-MAX_NUMBER c =

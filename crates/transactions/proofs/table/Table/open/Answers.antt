@@ -7,7 +7,7 @@ use Rattle.transactions.specs.Answer.{opened}
 use Rattle.transactions.specs.NumberSet.{digits}
 use Rattle.transactions.specs.Table.{numbers_of, mark_at, waiting, put, done, lowest}
 use Rattle.transactions.proofs.LawsTable.{table, one_free, none_free, numbers_put, gave_kept, lowest_free, free_gave, resetting_is}
-use Rattle.transactions.proofs.LawsCalls.{open_11, open_33, open_31, open_done}
+use Rattle.transactions.proofs.LawsCalls.{open_31, open_done}
 use Rattle.transactions.proofs.table.Table.open.Goals as goal
 
 opens : (t : Table) (n w : ℕ) → n ≡ lowest (numbers_of t) → digits 16 w ≡ set (digits 16 t.waiting) n 1
@@ -15,14 +15,6 @@ opens : (t : Table) (n w : ℕ) → n ≡ lowest (numbers_of t) → digits 16 w 
 opens t n w e with-n =
     let f = free_gave t n (ap (mark_at (numbers_of t)) e ∙ lowest_free (numbers_of t)) in
     numbers_put t n 1 0 w t.given_up with-n (gave_kept t n f)
-
-pub returns-then-not-keeps_rules : goal.returns-then-not-keeps_rules
-returns-then-not-keeps_rules c =
-    c.refused.ensures ∙ sym (open_11 _ (sym c.keeps_rules.ensures ∙ c.if-not-keeps_rules.true))
-
-pub returns-then-self : goal.returns-then-self
-returns-then-self c =
-    c.refused-then-self.ensures ∙ sym (open_33 _ (sym c.keeps_rules.ensures ∙ c.if-not-keeps_rules.false) (resetting_is _ c.if-self.true))
 
 pub returns-in-None : goal.returns-in-None
 returns-in-None c =
