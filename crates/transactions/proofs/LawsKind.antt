@@ -19,6 +19,15 @@ pub announces : kind announcement ≡ Announcement
 unfolding kind
 announces = rw (same_self announcement)
 
+-- the announcement and no other body
+pub announced_only : (b : List ℕ) → kind b ≡ Announcement → b ≡ announcement
+unfolding kind
+announced_only b e =
+    by_test (is_same b announcement) (λ t. same_equal b announcement t)
+    (λ t. by_test (ltb (length b) min_body) (λ u. impossible cc)
+    (λ u. by_test (ltb max_body (length b)) (λ v. impossible cc)
+    (λ v. by_test (eqb (header_of b / 64) 2) (λ w. impossible cc) (λ w. impossible cc))))
+
 -- the number in a header has four bits
 pub reply_below : (b : List ℕ) (n : ℕ) → kind b ≡ Reply n → n < 16
 unfolding kind

@@ -8,4 +8,3 @@ pub fcs_octet-r-requires : goal.fcs_octet-r-requires
 unfolding fcs_table fcs_entries fcs_bits fcs_bit
 fcs_octet-r-requires c =
     refl
-
