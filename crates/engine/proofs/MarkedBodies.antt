@@ -8,14 +8,14 @@ use Rattle.octets.specs.Padding.{pad}
 use Rattle.octets.specs.Ranges.{is_between}
 use Rattle.packed.specs.Packed.{packed, packed_in, joined, number_in, packed_at}
 use Rattle.utf8.specs.Utf8.{leads, lead_in, step, ends, is_utf8}
-use Rattle.property.specs.Row.{rows, lookup_in, lookup, allows}
+use Rattle.property.specs.Row.{rows, lookup, allows}
 use Rattle.property.specs.Number.{numbers, within}
 use Rattle.device.specs.State.{defaults, fresh}
 use Rattle.device.specs.Text.{good_text, is_text}
 use Rattle.device.specs.Ports.{ports_in, holds, distinct}
 use Rattle.device.specs.Setup.{is_good_setup, refusal, setup_for, Setup, device_from}
 use Rattle.device.specs.View.{power_after}
-use Rattle.request.specs.Verdict.{command_of, by_row, by_property, by_command, verdict}
+use Rattle.request.specs.Verdict.{command_of, verdict}
 use Rattle.method.specs.Perform.{get_with, perform}
 use Rattle.method.specs.Set.{value_in, conflicts, number_to, set_number, power_to, set_power, set_name, set_ports, set_kind}
 use Rattle.method.specs.Items.{insert_port, without, remove_port}
@@ -30,8 +30,8 @@ use Rattle.engine.specs.Marked.{fresh_box, marked}
 use Rattle.engine.specs.Worked.{worked_setup, worked_bodies, replies_on0, replies_on1, values_on1, unset_body, unset_reply}
 
 pub marked_bodies : map (λ l. replies_to fresh_box l.bodies) marked ≡ map (λ l. l.replies) marked
-unfolding before le le_octets pad packed packed_in joined number_in packed_at rows lookup_in lookup allows numbers within
-    is_utf8 ends good_text is_text ports_in holds distinct defaults fresh is_good_setup refusal setup_for power_after command_of by_row by_property by_command verdict
+unfolding before le le_octets pad packed packed_in joined number_in packed_at rows lookup allows numbers within
+    is_utf8 ends good_text is_text ports_in holds distinct defaults fresh is_good_setup refusal setup_for power_after command_of verdict
     get_with value_in conflicts number_to set_number power_to set_power set_name set_ports set_kind insert_port without remove_port perform
     fixed_value number_value value_of status_reply reply_command content success_reply concluded reached judged_by judged status_decision decision_of
     decide link_of is_set_up affect settled engine fresh_box replies_to marked
@@ -47,8 +47,8 @@ pub record WorkedLinks (s : Setup) : Type 0 where
   pub status_2 : status_on 2 (device_after (device_from s) worked_bodies) ≡ []
 
 pub worked_links : WorkedLinks worked_setup
-unfolding before le le_octets pad packed packed_in joined number_in packed_at rows lookup_in lookup allows numbers within
-    is_utf8 step leads lead_in is_between ends good_text is_text ports_in holds distinct defaults fresh is_good_setup setup_for power_after command_of by_row by_property by_command verdict
+unfolding before le le_octets pad packed packed_in joined number_in packed_at rows lookup allows numbers within
+    is_utf8 step leads lead_in is_between ends good_text is_text ports_in holds distinct defaults fresh is_good_setup setup_for power_after command_of verdict
     get_with value_in conflicts number_to set_number power_to set_power set_kind insert_port perform
     fixed_value number_value value_of status_reply reply_command content success_reply concluded reached judged_by judged status_decision decision_of
     decide is_reset link_of is_set_up affect settled engine device_after is_answered replies_on values_on status_on

@@ -6,34 +6,37 @@ ghost use Rattle.device.specs.State.{max_links, max_reply};
 ghost use Rattle.device.specs.Rules.{rules};
 ghost use Rattle.engine.specs.Engine.{affect, engine};
 
-use command::decide;
-use device::{Device, Effect, Link, View};
-use property::status;
+use command::{Decided, decide};
+use device::{Device, Effect, View};
+use property::Status;
 use reply::write_status;
 
 // The box after a body, and how many octets its reply has, from the front of the space lent for it.
-#[derive(Clone, Copy)]
+#[derive(Clone, Copy, PartialEq, Eq)]
 pub struct Answered {
     pub device: Device,
     pub len: usize,
 }
 
-fn affected(device: Device, k: usize, effect: Effect, link: Link) -> Device
+#[tactic(auto, unfolding(crate::specs::Engine::affect))]
+fn affected(device: Device, k: usize, decided: Decided) -> Device
     requires { k < max_links }
-    ensures { result ≡ affect effect device k link }
+    ensures { result ≡ affect decided.effect device k decided.link }
 {
-    let mut changed = device;
-    changed.links[k] = link;
-    match effect {
-        Effect::None => changed,
+    let mut links = device.links;
+    links[k] = decided.link;
+    match decided.effect {
+        Effect::None => Device { links, ..device },
         Effect::Reset => Device::fresh(device.settings),
-        Effect::Powered(state) => {
-            changed.power = state;
-            changed
-        }
+        Effect::Powered(power) => Device {
+            power,
+            links,
+            ..device
+        },
     }
 }
 
+#[tactic(auto, unfolding(crate::specs::Engine::engine, crate::specs::Engine::settled, crate::specs::Engine::is_set_up, crate::specs::Engine::link_of))]
 pub fn answer(device: Device, body: &[u8], out: &mut [u8]) -> Answered
     requires rules { rules device ≡ true }
     requires body { SpinelBody body.now }
@@ -42,20 +45,17 @@ pub fn answer(device: Device, body: &[u8], out: &mut [u8]) -> Answered
     ensures reply { Wrote out.old out.new 0 result.len (engine device body.now).reply }
 {
     let header = body[0];
-    let k = (header / 16 % 4) as usize;
-    let settings = device.settings;
-    if k < settings.links {
-        let decided = decide(View::of(device, k), body, out);
-        let effect = decided.effect;
-        let link = decided.link;
+    let k = usize::from(header / 16 % 4);
+    // Step 1.
+    if device.settings.links <= k {
         return Answered {
-            device: affected(device, k, effect, link),
-            len: decided.len,
+            device,
+            len: write_status(out, header, Status::InvalidInterface.number()),
         };
     }
-    // Step 1.
+    let decided = decide(View::of(device, k), body, out);
     Answered {
-        device,
-        len: write_status(out, header, status::INVALID_INTERFACE),
+        device: affected(device, k, decided),
+        len: decided.len,
     }
 }

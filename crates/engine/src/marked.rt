@@ -10,5 +10,5 @@ pub fn two_links() -> Device
     ensures device { result ≡ fresh_box }
     ensures keeps { rules result ≡ true }
 {
-    setup(2, 0, b"", b"\x00\x00\x00\x00\x00\x00\x00\x00").device
+    setup(2, 0, b"", &[0; Device::ADDRESS_SIZE]).device
 }
