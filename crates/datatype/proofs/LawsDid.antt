@@ -28,13 +28,12 @@ length_numbers [] = refl
 length_numbers (l ∷ ls) = omega (arith, length_numbers ls)
 
 -- one answer, one place and number of leaves
-read : Result Read Misfit → Read
-read (Ok r) = r
-read (Err m) = record { next = 0; leaves = 0 }
-
 same : (p n q k : ℕ) → reached p n ≡ reached q k → (p ≡ q) × (n ≡ k)
-unfolding read
-same p n q k e = (ap (λ r. (read r).next) e, ap (λ r. (read r).leaves) e)
+same p n q k e =
+    let one : Read = record { next = p; leaves = n } in
+    let other : Read = record { next = q; leaves = k } in
+    let same : one ≡ other = cc in
+    (ap (λ r. r.next) same, ap (λ r. r.leaves) same)
 
 -- what an answer tells of the reading
 pub did_misfit : (m : Reading) (l l' : List ℕ) (k : ℕ) (w : Option Fault) → Did m l l' k (unfit w) → m ≡ misfit w

@@ -13,7 +13,7 @@ use Rattle.utf8.specs.Utf8.{is_utf8}
 use Rattle.packed.specs.Packed.{packed_at}
 use Rattle.packed.specs.declared.Packed.{Packed}
 use Rattle.packed.specs.declared.Fault.{Fault}
-use Rattle.std.specs.Prelude.{Option, Some, None, Result, Ok, Err}
+use Rattle.std.specs.Prelude.{Option, Some, Result, Ok, Err}
 use Rattle.packed.proofs.OneSpelling.{place_after}
 use Rattle.typestring.specs.declared.kind.Value.{Value}
 use Rattle.typestring.specs.declared.kind.Value.TheVariants as value
@@ -26,21 +26,19 @@ use Rattle.datatype.specs.Leaf.{fixed_at, bool_at, number_span, text_at, counted
 
 -- ---- one span, one misfit
 
-span : Result Span Misfit → Span
-span (Ok s) = s
-span (Err m) = record { start = 0; size = 0; next = 0 }
-
 pub same : (a b c start size next : ℕ) → stands a b c ≡ stands start size next → (a ≡ start) × (b ≡ size) × (c ≡ next)
-unfolding span
-same a b c start size next e = (ap (λ r. (span r).start) e, ap (λ r. (span r).size) e, ap (λ r. (span r).next) e)
-
-cause : {A : Type 0} → Result A Misfit → Option Fault
-cause (Ok s) = None
-cause (Err m) = m.cause
+same a b c start size next e =
+    let one : Span = record { start = a; size = b; next = c } in
+    let other : Span = record { start = start; size = size; next = next } in
+    let same : one ≡ other = cc in
+    (ap (λ s. s.start) same, ap (λ s. s.size) same, ap (λ s. s.next) same)
 
 pub one_cause : {A : Type 0} (v w : Option Fault) → unfit {A = A} v ≡ unfit w → v ≡ w
-unfolding cause
-one_cause v w e = ap cause e
+one_cause v w e =
+    let one : Misfit = record { cause = v } in
+    let other : Misfit = record { cause = w } in
+    let same : one ≡ other = cc in
+    ap (λ m. m.cause) same
 
 module _ (part : List ℕ) (from start size next : ℕ) where
   abbrev Fits : Type 0

@@ -25,20 +25,20 @@ impl Read {
             Err(Misfit { cause: None })
         }
     }
-}
 
-// The leaf of a value, behind the leaves so far. Its numbers are stored as far as the list goes.
-pub fn put_leaf(list: &mut [u32], leaves: usize, letter: u8, span: Span) -> Read
-    requires { (leaves ≤ max_payload + max_octets) × Small span }
-    ensures { Did (leaf_reads letter (Ok span)) list.old list.new leaves (Ok result) }
-{
-    let at = 3 * leaves;
-    put_number(list, at, u32::from(letter));
-    put_number(list, at + 1, span.start as u32);
-    put_number(list, at + 2, span.size as u32);
-    Read {
-        next: span.next,
-        leaves: leaves + 1,
+    // The leaf of a value, behind the leaves so far. Its numbers are stored as far as the list goes.
+    pub fn with_leaf(self, list: &mut [u32], letter: u8, span: Span) -> Read
+        requires { (self.leaves ≤ max_payload + max_octets) × Small span }
+        ensures { Did (leaf_reads letter (Ok span)) list.old list.new self.leaves (Ok result) }
+    {
+        let at = 3 * self.leaves;
+        put_number(list, at, u32::from(letter));
+        put_number(list, at + 1, span.start as u32);
+        put_number(list, at + 2, span.size as u32);
+        Read {
+            next: span.next,
+            leaves: self.leaves + 1,
+        }
     }
 }
 

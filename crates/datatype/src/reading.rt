@@ -7,7 +7,7 @@ ghost use Rattle.datatype.specs.Answer.{reported, report_of, filled, answer_to};
 ghost use Rattle.datatype.specs.Calls.{Room, ReadsPart, ReadsItem};
 
 use crate::leaf::{Misfit, counted_at, rest_of, span_of};
-use crate::list::{Read, put_leaf};
+use crate::list::Read;
 use packed::Fault;
 use typestring::{ItemKind, TypeString, ends_part, is_type, item_end, kind_of};
 
@@ -125,9 +125,9 @@ fn read_item(
     match kind_of(letter).unwrap() {
         ItemKind::Value(value) => {
             let span = span_of(value, part, start.next)?;
-            Ok(put_leaf(list, start.leaves, letter, span))
+            Ok(start.with_leaf(list, letter, span))
         }
-        ItemKind::Rest => Ok(put_leaf(list, start.leaves, letter, rest_of(part, start.next))),
+        ItemKind::Rest => Ok(start.with_leaf(list, letter, rest_of(part, start.next))),
         ItemKind::Struct => {
             let contents = counted_at(part, start.next)?;
             let inside = Read {

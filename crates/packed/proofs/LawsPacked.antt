@@ -65,17 +65,12 @@ joined_joined n scale low (Ok p) =
     rw (e, pos) (ap (λ k. read k p.next) (omega (arith, mul-add scale low (128 * p.number), mul_assoc scale 128 p.number))))
 
 -- two readings that are one have one number and one place
-number_of : Result Packed Fault → ℕ
-number_of (Ok p) = p.number
-number_of (Err f) = 0
-
-next_of : Result Packed Fault → ℕ
-next_of (Ok p) = p.next
-next_of (Err f) = 0
-
 pub same_read : (n next m to : ℕ) → read n next ≡ read m to → (n ≡ m) × (next ≡ to)
-unfolding number_of next_of
-same_read n next m to e = (ap number_of e, ap next_of e)
+same_read n next m to e =
+    let one : Packed = record { number = n; next = next } in
+    let other : Packed = record { number = m; next = to } in
+    let same : one ≡ other = cc in
+    (ap (λ p. p.number) same, ap (λ p. p.next) same)
 
 -- no more than so many octets are read
 pub number_take : (k at : ℕ) (xs : List ℕ) → number_in k at (take k xs) ≡ number_in k at xs

@@ -23,6 +23,7 @@ pub enum Step {
     Last(usize),
 }
 
+#[tactic(auto, using(crate::proofs::LawsCheck::whole_ends), unfolding(crate::specs::Parse::type_of))]
 pub fn is_type(types: &[u8]) -> bool
     ensures { result ≡ parse.is_type (parse.type_of types.now) }
 {
@@ -31,6 +32,7 @@ pub fn is_type(types: &[u8]) -> bool
 }
 
 // Whether a part ends at a place: there is a closing bracket, or the string's end.
+#[tactic(auto, using(octets::proofs::LawsLists::drop_next), unfolding(crate::specs::Parse::ends_part))]
 pub fn ends_part(types: &[u8], at: usize) -> bool
     requires { at ≤ length types.now }
     ensures { result ≡ parse.ends_part (drop at types.now) }

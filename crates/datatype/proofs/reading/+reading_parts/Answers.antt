@@ -26,8 +26,8 @@ read_item-returns-in_err-span-in-Value t c =
     let gives : c.from_residual.result ≡ Err m = search rules in
     reads_value a.types.now a.at _ _ _ _ _ _ _ _ (Err m) (sym c.kind_of.ensures ∙ c.in-Value.ensures) (sym c.in_err-span-in-Value.was ∙ c.span_of.ensures) gives
 
-pub read_item-put_leaf-requires : goal.read_item-put_leaf-requires
-read_item-put_leaf-requires t c =
+pub read_item-with_leaf-requires : goal.read_item-with_leaf-requires
+read_item-with_leaf-requires t c =
     let room = c.requires.1 in (
       omega (arith, room.few, room.short),
       span_small _ _ _ _ _ room.within room.short (sym c.kind_of.ensures ∙ c.in-Value.ensures) (sym c.in_ok-span-in-Value.was ∙ c.span_of.ensures),
@@ -37,12 +37,12 @@ pub read_item-returns-in_ok-span-in-Value : goal.read_item-returns-in_ok-span-in
 read_item-returns-in_ok-span-in-Value t c =
     let a = c.args in
     reads_value a.types.now a.at _ _ _ _ _ _ _ _ _ (sym c.kind_of.ensures ∙ c.in-Value.ensures) (sym c.in_ok-span-in-Value.was ∙ c.span_of.ensures)
-    c.put_leaf.ensures
+    c.with_leaf.ensures
 
 pub read_item-returns-in-Rest : goal.read_item-returns-in-Rest
 read_item-returns-in-Rest t c =
     let a = c.args in
-    reads_rest a.types.now a.at _ _ _ _ _ _ _ (sym c.kind_of.ensures ∙ c.in-Rest.ensures) (rw c.rest_of.ensures at c.put_leaf-in-Rest.ensures)
+    reads_rest a.types.now a.at _ _ _ _ _ _ _ (sym c.kind_of.ensures ∙ c.in-Rest.ensures) (rw c.rest_of.ensures at c.with_leaf-in-Rest.ensures)
 
 -- ---- t and its contents
 

@@ -2,7 +2,7 @@
 use Rattle.std.proofs.Common.{refl, add-one}
 use native.Mathlib.Numerals.{add-two}
 use Rattle.datatype.specs.Reading.{leaf_reads, numbers}
-use Rattle.datatype.proofs.list.put_leaf.Goals as goal
+use Rattle.datatype.proofs.list.Read.with_leaf.Goals as goal
 
 pub returns : goal.returns
 unfolding leaf_reads numbers
