@@ -10,8 +10,8 @@ use lib.ListN.{drop}
 use Rattle.octets.specs.Body.{header_of, SpinelBody}
 use Rattle.octets.proofs.LawsRanges.{inside}
 use Rattle.octets.proofs.LawsTests.{by_test}
-use Rattle.packed.specs.declared.Cause.{Cause}
-use Rattle.packed.specs.declared.Cause.TheVariants.{None}
+use Rattle.std.specs.Prelude.{Option, None, Result, Ok, Err}
+use Rattle.packed.specs.declared.Fault.{Fault}
 use Rattle.property.specs.declared.commands.Command.{Command}
 use Rattle.property.specs.declared.row.Row.{Row}
 use Rattle.device.specs.State.{fresh}
@@ -19,17 +19,18 @@ use Rattle.device.specs.Rules.{rules}
 use Rattle.device.specs.declared.state.Device.{Device}
 use Rattle.device.specs.View.{view_of}
 use Rattle.device.proofs.StateRules.{some, few}
-use Rattle.request.specs.Verdict.{verdict as verdict_of}
-use Rattle.request.specs.declared.verdict.Verdict.{Verdict}
-use Rattle.request.specs.declared.verdict.Verdict.TheVariants as verdict
+use Rattle.request.specs.Verdict.{status_of, verdict as verdict_of}
+use Rattle.request.specs.declared.verdict.Refusal.{Refusal}
+use Rattle.request.specs.declared.verdict.Request.{Request}
+use Rattle.request.specs.declared.verdict.Request.TheVariants as request
 use Rattle.reply.specs.Reply.{status_reply}
 use Rattle.command.specs.Decision.{judged_by, judged, decision_of, reached, decide}
 use Rattle.engine.specs.Engine.{link_of, is_set_up, Response, settled, engine}
 use Rattle.engine.proofs.Refusals.{status_set, refusal_status, noop_status, reset_status_lem, not_set_up}
 use Rattle.diagnosis.specs.declared.classes.Class.{Class}
-use Rattle.diagnosis.specs.declared.classes.Class.TheVariants.{Stopped, Noop, Reset, Reaches}
+use Rattle.diagnosis.specs.declared.classes.Class.TheVariants.{UnsetLink, Stopped, Noop, Reset, Reaches}
 use Rattle.diagnosis.specs.Classes.{Report, at_step, reported, verdict_class, link_class, class_of}
-use Rattle.diagnosis.specs.Steps.{OnSetUp, Told}
+use Rattle.diagnosis.specs.Steps.{OnSetUp, passage, stops, does_noop, does_reset, reaches_property, Told}
 use Rattle.diagnosis.proofs.StepsByOctets.{verdict_told}
 use Rattle.diagnosis.proofs.Fates.{checked_class}
 
@@ -43,29 +44,29 @@ goes_on d b c r start =
 pub data Means (d : Device) (b : List ℕ) : Class → Report → Type 0 where
   -- step 1: nothing changes
   by_link : (OnSetUp d.settings.links b → ⊥) → engine d b ≡ record { device = d; reply = status_reply (header_of b) 6 }
-      → Means d b (Stopped 1 6 None) (at_step 1 6 None)
+      → Means d b UnsetLink (at_step 1 6 None)
   -- steps 2, 4 and 5: a refusal
-  by_step : {n s : ℕ} {w : Cause} → OnSetUp d.settings.links b → verdict_of b ≡ verdict.Refuse n s w → Told b (verdict.Refuse n s w)
+  by_step : {r : Refusal} {n s : ℕ} {w : Option Fault} → OnSetUp d.settings.links b → verdict_of b ≡ Err r → Told b (stops n s w)
       → engine d b ≡ record { device = status_set d (link_of b) s; reply = status_reply (header_of b) s }
-      → Means d b (Stopped n s w) (at_step n s w)
+      → Means d b (Stopped r) (at_step n s w)
   -- step 3
-  noop : OnSetUp d.settings.links b → Told b verdict.Noop
+  noop : OnSetUp d.settings.links b → Told b does_noop
       → engine d b ≡ record { device = status_set d (link_of b) 0; reply = status_reply (header_of b) 0 }
       → Means d b Noop (at_step 3 0 None)
-  reset : OnSetUp d.settings.links b → Told b verdict.Reset
+  reset : OnSetUp d.settings.links b → Told b does_reset
       → engine d b ≡ record { device = fresh d.settings; reply = 0x80 ∷ 0x06 ∷ 0x00 ∷ 0x72 ∷ [] }
       → Means d b Reset (at_step 3 114 None)
   -- steps 1 to 5 have passed
-  reaches : {c : Command} {r : Row} {start : ℕ} → OnSetUp d.settings.links b → verdict_of b ≡ verdict.Reach c r start
-      → Told b (verdict.Reach c r start) → engine d b ≡ goes_on d b c r start
+  reaches : {c : Command} {r : Row} {start : ℕ} → OnSetUp d.settings.links b → verdict_of b ≡ Ok (request.Reach c r start)
+      → Told b (reaches_property c r start) → engine d b ≡ goes_on d b c r start
       → Means d b Reaches (at_step 6 0 None)
 
 -- what is reported of a step
-pub step_report : (n s : ℕ) (w : Cause) → at_step n s w ≡ record { number = 0; step = n; status = s; cause = w }
+pub step_report : (n s : ℕ) (w : Option Fault) → at_step n s w ≡ record { number = 0; step = n; status = s; cause = w }
 step_report n s w = refl
 
 module _ (d : Device) (b : List ℕ) where
-  judged_as : (w : Verdict) → verdict_of b ≡ w → judged (view_of (link_of b) d) b ≡ judged_by (view_of (link_of b) d) b w
+  judged_as : (w : Result Request Refusal) → verdict_of b ≡ w → judged (view_of (link_of b) d) b ≡ judged_by (view_of (link_of b) d) b w
   unfolding judged
   judged_as w e = rw e
 
@@ -73,17 +74,18 @@ module _ (d : Device) (b : List ℕ) where
   unfolding is_set_up link_of
   on up = ltb-true (link_of b) d.settings.links up
 
-  goes_on_lem : (c : Command) (r : Row) (start : ℕ) → is_set_up d.settings b ≡ true → verdict_of b ≡ verdict.Reach c r start
+  goes_on_lem : (c : Command) (r : Row) (start : ℕ) → is_set_up d.settings b ≡ true → verdict_of b ≡ Ok (request.Reach c r start)
       → engine d b ≡ goes_on d b c r start
   unfolding engine decide judged_by
-  goes_on_lem c r start up e = rw (up, judged_as (verdict.Reach c r start) e)
+  goes_on_lem c r start up e = rw (up, judged_as (Ok (request.Reach c r start)) e)
 
-  by_verdict : is_set_up d.settings b ≡ true → (w : Verdict) → verdict_of b ≡ w → Told b w → Means d b (verdict_class w) (reported (verdict_class w))
+  by_verdict : is_set_up d.settings b ≡ true → (w : Result Request Refusal) → verdict_of b ≡ w → Told b (passage w)
+      → Means d b (verdict_class w) (reported (verdict_class w))
   unfolding judged_by
-  by_verdict up (verdict.Refuse n s w) e t = by_step (on up) e t (refusal_status d b up s (judged_as (verdict.Refuse n s w) e))
-  by_verdict up verdict.Noop e t = noop (on up) t (noop_status d b up (judged_as verdict.Noop e))
-  by_verdict up verdict.Reset e t = reset (on up) t (reset_status_lem d b up (judged_as verdict.Reset e))
-  by_verdict up (verdict.Reach c r start) e t = reaches (on up) e t (goes_on_lem c r start up e)
+  by_verdict up (Err r) e t = by_step (on up) e t (refusal_status d b up (status_of r) (judged_as (Err r) e))
+  by_verdict up (Ok request.Noop) e t = noop (on up) t (noop_status d b up (judged_as (Ok request.Noop) e))
+  by_verdict up (Ok request.Reset) e t = reset (on up) t (reset_status_lem d b up (judged_as (Ok request.Reset) e))
+  by_verdict up (Ok (request.Reach c r start)) e t = reaches (on up) e t (goes_on_lem c r start up e)
 
   pub classified : rules d ≡ true → SpinelBody b → let c = class_of d.settings.links b in Means d b c (reported c)
   unfolding link_class is_set_up link_of

@@ -4,17 +4,18 @@ use mathlib.Core.Path.{◌≡◌, refl, ap, ◌∙◌}
 use mathlib.Core.Bool.{true, false}
 use mathlib.Core.List.{List}
 use Prim.Native.Nat.{ℕ, ◌/◌, ◌≤◌, ◌<◌}
-use borrow.Author.Tests.{eq-eqb, ne_eqb}
+use native.Mathlib.Omega.{arith}
 use lib.Dec.{ltb}
 use lib.ListN.{length}
 use Rattle.octets.specs.Body.{Body, header_of, SpinelBody}
 use Rattle.octets.specs.Ranges.{is_between}
 use Rattle.octets.proofs.LawsTests.{chosen}
 use Rattle.octets.proofs.LawsRanges.{inside_told}
-use Rattle.packed.specs.declared.Cause.TheVariants.{None}
+use Rattle.std.specs.Prelude.{None, Result, Ok, Err}
 use Rattle.request.specs.Verdict.{verdict as verdict_of}
-use Rattle.request.specs.declared.verdict.Verdict.{Verdict}
-use Rattle.request.specs.declared.verdict.Verdict.TheVariants.{Refuse, Noop, Reset, Reach}
+use Rattle.request.specs.declared.verdict.Refusal.{Refusal}
+use Rattle.request.specs.declared.verdict.Request.{Request}
+use Rattle.request.specs.declared.verdict.Request.TheVariants.{Noop, Reset, Reach}
 use Rattle.engine.specs.Engine.{link_of}
 use Rattle.diagnosis.specs.Classes.{refused, reported, verdict_class, link_class, head_class, class_of}
 use Rattle.diagnosis.proofs.LawsClasses.{bad_links, over_long, under_two, by_head}
@@ -27,11 +28,11 @@ refused_report n = refl
 pub refusal_14 : (links : ℕ) (b : List ℕ) → is_between 1 4 links ≡ false → reported (class_of links b) ≡ refused 14
 refusal_14 links b h = ap reported (bad_links links b h)
 
-number_by : (w : Verdict) → (reported (verdict_class w)).number ≡ 0
-number_by (Refuse n s cause) = refl
-number_by Noop = refl
-number_by Reset = refl
-number_by (Reach c r start) = refl
+number_by : (w : Result Request Refusal) → (reported (verdict_class w)).number ≡ 0
+number_by (Err r) = refl
+number_by (Ok Noop) = refl
+number_by (Ok Reset) = refl
+number_by (Ok (Reach c r start)) = refl
 
 module _ (links : ℕ) (b : List ℕ) (good : is_between 1 4 links ≡ true) where
   few : (1 ≤ links) × (links ≤ 4)
@@ -48,12 +49,12 @@ module _ (links : ℕ) (b : List ℕ) (good : is_between 1 4 links ≡ true) whe
 
   pub fate_6 : 2 ≤ length b → length b ≤ 1300 → (header_of b / 64 ≡ 2 → ⊥) → reported (class_of links b) ≡ refused 6
   unfolding head_class
-  fate_6 least most top = rw (whole (least, most), ne_eqb (header_of b / 64) 2 top)
+  fate_6 least most top = rw (whole (least, most)) (grind arith)
 
   -- a body that reaches the engine is sorted by its link and by steps 2 to 5
   pub checked_class : SpinelBody b → class_of links b ≡ link_class links b
   unfolding head_class
-  checked_class h = rw (whole (h.0, h.1), eq-eqb (header_of b / 64) 2 h.2)
+  checked_class h = rw (whole (h.0, h.1)) (grind arith)
 
   pub no_fate : SpinelBody b → (reported (class_of links b)).number ≡ 0
   unfolding link_class

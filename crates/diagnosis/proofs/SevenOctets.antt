@@ -4,13 +4,13 @@ use mathlib.Core.Path.{◌≡◌, refl, ◌∙◌}
 use mathlib.Core.List.{List, [], ◌∷◌}
 use Prim.Native.Nat.{ℕ, zero, suc, ◌+◌, ◌≤◌}
 use native.Mathlib.Omega.{arith}
-use borrow.Author.Tests.{le-ltb}
-use lib.ListN.{length, take, drop, length-take}
+use lib.ListN.{take, drop, length-take}
 use lib.Seq.{take-take, get_or-take}
-use Rattle.octets.specs.Body.{min_body, max_body, Body}
-use Rattle.packed.specs.Packed.{packed_at}
+use Rattle.octets.specs.Body.{Body}
+use Rattle.packed.specs.Packed.{packed_at, read}
 use Rattle.packed.specs.declared.Packed.{Packed}
-use Rattle.packed.specs.declared.Packed.TheVariants.{Number, Unreadable}
+use Rattle.packed.specs.declared.Fault.{Fault}
+use Rattle.std.specs.Prelude.{Result, Ok, Err}
 use Rattle.packed.proofs.OneSpelling.{place_after, same_octets}
 use Rattle.request.specs.Verdict.{by_command, verdict}
 use Rattle.engine.specs.Engine.{link_of}
@@ -27,16 +27,15 @@ number_front : (b : List ℕ) (at n : ℕ) → at + 3 ≤ n → packed_at (take 
 number_front b at n h = same_octets (take n b) b at (part_front 3 at n b h)
 
 -- a number takes three octets at most: it is read from the octets up to there
-three_octets : (b : List ℕ) (at n next : ℕ) → packed_at b at ≡ Number n next → next ≤ at + 3
+three_octets : (b : List ℕ) (at n next : ℕ) → packed_at b at ≡ read n next → next ≤ at + 3
 three_octets b at n next e =
     let inside = (place_after (take (at + 3) b) at n next (number_front b at (at + 3) (omega arith) ∙ e)).1 in
     omega (arith, length-take (at + 3) b)
 
 -- the command ends at the fourth octet or before, and so the property number at the seventh
-by_command_lem : (b : List ℕ) (q : Packed) → packed_at b 1 ≡ q → by_command (take max_head b) q ≡ by_command b q
-unfolding by_command
-by_command_lem b (Unreadable f) e = refl
-by_command_lem b (Number n next) e = rw (number_front b next max_head (omega (arith, three_octets b 1 n next e)))
+by_command_lem : (b : List ℕ) (q : Result Packed Fault) → packed_at b 1 ≡ q → by_command (take max_head b) q ≡ by_command b q
+by_command_lem b (Err f) e = refl
+by_command_lem b (Ok p) e = rw (number_front b p.next max_head (omega (arith, three_octets b 1 p.number p.next e)))
 
 pub seven_octets : (b : List ℕ) → verdict (take 7 b) ≡ verdict b
 unfolding verdict
@@ -49,5 +48,4 @@ seven_class links b = rw (get_or-take 7 b 0 0 (omega arith), seven_octets b)
 
 pub same_class : (links : ℕ) (a b : List ℕ) → Body a → Body b → take 7 a ≡ take 7 b → class_of links a ≡ class_of links b
 unfolding class_of
-same_class links a b p q e =
-    rw (le-ltb max_body (length a) p.1, le-ltb (length a) min_body p.0, le-ltb max_body (length b) q.1, le-ltb (length b) min_body q.0, e)
+same_class links a b p q e = grind arith

@@ -5,12 +5,12 @@ ghost use Rattle.diagnosis.specs.Classes.{reported, head_class, class_of};
 
 use device::Device;
 use octets::Body;
-use packed::Cause;
-use property::status;
-use request::{Verdict, verdict_of};
+use packed::Fault;
+use property::Status;
+use request::{Refusal, Request, verdict_of};
 
 // What becomes of a body, with the number, or the step and the status, that the papers have for it.
-#[derive(Clone, Copy)]
+#[derive(Clone, Copy, PartialEq, Eq)]
 pub enum Class {
     // 14: the number of links is not 1 to 4.
     BadLinks,
@@ -20,8 +20,10 @@ pub enum Class {
     Short,
     // 6: the top two header bits are not 10.
     BadHeader,
-    // Stopped by 01's step of this number (1, 2, 4 or 5), with this status; and the fault of a packed integer, where that stopped it.
-    Stopped(u8, u8, Cause),
+    // Stopped by 01's step 1: the link is not set up.
+    UnsetLink,
+    // Stopped by step 2, 4 or 5.
+    Stopped(Refusal),
     // Answered by step 3.
     Noop,
     Reset,
@@ -42,10 +44,7 @@ impl Class {
             Class::TooLong => 4,
             Class::Short => 2,
             Class::BadHeader => 6,
-            Class::Stopped(_, _, _) => 0,
-            Class::Noop => 0,
-            Class::Reset => 0,
-            Class::Reaches => 0,
+            Class::UnsetLink | Class::Stopped(_) | Class::Noop | Class::Reset | Class::Reaches => 0,
         }
     }
 
@@ -54,13 +53,10 @@ impl Class {
         ensures { result ≡ (reported self).step }
     {
         match self {
-            Class::BadLinks => 0,
-            Class::TooLong => 0,
-            Class::Short => 0,
-            Class::BadHeader => 0,
-            Class::Stopped(step, _, _) => step,
-            Class::Noop => 3,
-            Class::Reset => 3,
+            Class::BadLinks | Class::TooLong | Class::Short | Class::BadHeader => 0,
+            Class::UnsetLink => 1,
+            Class::Stopped(refusal) => refusal.step(),
+            Class::Noop | Class::Reset => 3,
             Class::Reaches => 6,
         }
     }
@@ -70,35 +66,28 @@ impl Class {
         ensures { result ≡ (reported self).status }
     {
         match self {
-            Class::BadLinks => 0,
-            Class::TooLong => 0,
-            Class::Short => 0,
-            Class::BadHeader => 0,
-            Class::Stopped(_, status, _) => status,
-            Class::Noop => 0,
-            Class::Reset => status::RESET_SOFTWARE,
-            Class::Reaches => 0,
+            Class::BadLinks | Class::TooLong | Class::Short | Class::BadHeader | Class::Reaches =>
+                0,
+            Class::UnsetLink => Status::InvalidInterface.number(),
+            Class::Stopped(refusal) => refusal.status().number(),
+            Class::Noop => Status::Ok.number(),
+            Class::Reset => Status::ResetSoftware.number(),
         }
     }
 
     // The fault of a packed integer, where that stopped the body.
-    pub fn cause(self) -> Cause
+    pub fn cause(self) -> Option<Fault>
         ensures { result ≡ (reported self).cause }
     {
         match self {
-            Class::BadLinks => Cause::None,
-            Class::TooLong => Cause::None,
-            Class::Short => Cause::None,
-            Class::BadHeader => Cause::None,
-            Class::Stopped(_, _, cause) => cause,
-            Class::Noop => Cause::None,
-            Class::Reset => Cause::None,
-            Class::Reaches => Cause::None,
+            Class::Stopped(refusal) => refusal.cause(),
+            _ => None,
         }
     }
 }
 
 // By the top bits, the link, and steps 2 to 5.
+#[tactic(auto, unfolding(crate::specs::Classes::head_class, crate::specs::Classes::link_class, engine::specs::Engine::link_of))]
 fn head_class(links: usize, head: &[u8]) -> Class
     requires { min_body ≤ length head.now }
     ensures { result ≡ head_class links head.now }
@@ -107,25 +96,23 @@ fn head_class(links: usize, head: &[u8]) -> Class
     if header / 64 != 2 {
         return Class::BadHeader;
     }
-    if links <= (header / 16 % 4) as usize {
-        return Class::Stopped(1, status::INVALID_INTERFACE, Cause::None);
+    if links <= usize::from(header / 16 % 4) {
+        return Class::UnsetLink;
     }
     match verdict_of(head) {
-        Verdict::Refuse(step, status, cause) => Class::Stopped(step, status, cause),
-        Verdict::Noop => Class::Noop,
-        Verdict::Reset => Class::Reset,
-        Verdict::Reach(_, _, _) => Class::Reaches,
+        Err(refusal) => Class::Stopped(refusal),
+        Ok(Request::Noop) => Class::Noop,
+        Ok(Request::Reset) => Class::Reset,
+        Ok(Request::Reach { .. }) => Class::Reaches,
     }
 }
 
 // Takes any number of links and any body.
+#[tactic(auto, unfolding(crate::specs::Classes::class_of, octets::specs::Ranges::is_between))]
 pub fn classify(links: usize, body: &[u8]) -> Class
     ensures { result ≡ class_of links body.now }
 {
-    if links < 1 {
-        return Class::BadLinks;
-    }
-    if Device::MAX_LINKS < links {
+    if !(1..=Device::MAX_LINKS).contains(&links) {
         return Class::BadLinks;
     }
     if Body::MAX_OCTETS < body.len() {
@@ -134,8 +121,5 @@ pub fn classify(links: usize, body: &[u8]) -> Class
     if body.len() < Body::MIN_OCTETS {
         return Class::Short;
     }
-    if body.len() < Class::MAX_HEAD {
-        return head_class(links, body);
-    }
-    head_class(links, &body[..Class::MAX_HEAD])
+    head_class(links, &body[..body.len().min(Class::MAX_HEAD)])
 }
