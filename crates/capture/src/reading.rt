@@ -4,15 +4,15 @@ ghost use Rattle.capture.specs.Reading.{number_of, reported, read_at};
 
 use crate::records::{MARK, Record, in_range};
 
-// What is wrong at a place of a log.
+// What is wrong at a place of a log, with 02's number of each fault.
 #[derive(Clone, Copy, PartialEq, Eq)]
 pub enum ReadError {
-    // 21: another mark than 53 50.
-    BadMark,
-    // 22: a place past the end, under five octets, or fewer than the length says.
-    CutOff,
-    // 23: a direction that is not 0 or 1, or a length that is not 2 to 1,300.
-    OutOfRange,
+    // Another mark than 53 50.
+    BadMark = 21,
+    // A place past the end, under five octets, or fewer than the length says.
+    CutOff = 22,
+    // A direction that is not 0 or 1, or a length that is not 2 to 1,300.
+    OutOfRange = 23,
 }
 
 impl ReadError {
@@ -20,11 +20,7 @@ impl ReadError {
     pub fn number(self) -> u32
         ensures { result ≡ number_of self }
     {
-        match self {
-            ReadError::BadMark => 21,
-            ReadError::CutOff => 22,
-            ReadError::OutOfRange => 23,
-        }
+        self as u32
     }
 }
 

@@ -7,12 +7,13 @@ ghost use Rattle.capture.specs.Writing.{number_of, reported, writing};
 use crate::records::{MARK, Record, in_range};
 use octets::{write_le, write_octet, write_octets};
 
+// Why a record is not written, with 02's number of each reason.
 #[derive(Clone, Copy, PartialEq, Eq)]
 pub enum WriteError {
-    // 23: a direction that is not 0 or 1, or a body that has not 2 to 1,300 octets.
-    OutOfRange,
-    // 24: the record does not fit between the place and the end of the space.
-    NoRoom,
+    // A direction that is not 0 or 1, or a body that has not 2 to 1,300 octets.
+    OutOfRange = 23,
+    // The record does not fit between the place and the end of the space.
+    NoRoom = 24,
 }
 
 impl WriteError {
@@ -20,10 +21,7 @@ impl WriteError {
     pub fn number(self) -> u32
         ensures { result ≡ number_of self }
     {
-        match self {
-            WriteError::OutOfRange => 23,
-            WriteError::NoRoom => 24,
-        }
+        self as u32
     }
 }
 
@@ -39,7 +37,7 @@ fn put_record(space: &mut [u8], at: usize, direction: u8, body: &[u8]) -> usize
     write_octets(space, at_body, body)
 }
 
-// Takes any space, any place, any direction and any body. Returns the place after the record.
+// Takes any space, any place, any direction and any body, so the direction is an octet here. Returns the place after the record.
 pub fn write_record(
     space: &mut [u8],
     at: usize,

@@ -13,12 +13,12 @@ use hdlc::{Fate, Reader, Reading, read_frame};
 // Why a call is refused, with 01's numbers. A refused one reads nothing and writes nothing.
 #[derive(Clone, Copy, PartialEq, Eq)]
 pub enum Refusal {
-    // 11: the box or the reader breaks its own rules.
-    BadState,
-    // 12: the assembly buffer has under 1,302 octets.
-    SmallAssembly,
-    // 13: the output has under 128 octets.
-    SmallOutput,
+    // The box or the reader breaks its own rules.
+    BadState = 11,
+    // The assembly buffer has under 1,302 octets.
+    SmallAssembly = 12,
+    // The output has under 128 octets.
+    SmallOutput = 13,
 }
 
 impl Refusal {
@@ -26,11 +26,7 @@ impl Refusal {
     pub fn number(self) -> u32
         ensures { result ≡ refusal_number self }
     {
-        match self {
-            Refusal::BadState => 11,
-            Refusal::SmallAssembly => 12,
-            Refusal::SmallOutput => 13,
-        }
+        self as u32
     }
 }
 

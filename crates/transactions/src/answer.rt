@@ -5,14 +5,14 @@ ghost use Rattle.transactions.specs.Answer.{refusal_number};
 // Why a call is refused, with 02's number of each reason.
 #[derive(Clone, Copy, PartialEq, Eq)]
 pub enum Refusal {
-    // 11: the table breaks its own rules.
-    BadTable,
-    // 31: none of 1 to 15 is free.
-    Full,
-    // 32: the number to give up is not waiting.
-    NotWaiting,
-    // 33: a reset is under way.
-    Resetting,
+    // The table breaks its own rules.
+    BadTable = 11,
+    // None of 1 to 15 is free.
+    Full = 31,
+    // The number to give up is not waiting.
+    NotWaiting = 32,
+    // A reset is under way.
+    Resetting = 33,
 }
 
 #[derive(Clone, Copy, PartialEq, Eq)]
@@ -38,11 +38,6 @@ impl Refusal {
     pub fn number(self) -> u32
         ensures { result ≡ refusal_number self }
     {
-        match self {
-            Refusal::BadTable => 11,
-            Refusal::Full => 31,
-            Refusal::NotWaiting => 32,
-            Refusal::Resetting => 33,
-        }
+        self as u32
     }
 }

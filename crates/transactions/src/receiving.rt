@@ -19,10 +19,10 @@ pub enum Heard {
 // Why a call is refused, with 01's number of each reason.
 #[derive(Clone, Copy, PartialEq, Eq)]
 pub enum ReceiveRefusal {
-    // 11: the table or the reader breaks its own rules.
-    BadState,
-    // 12: the assembly buffer has under 1,302 octets.
-    SmallAssembly,
+    // The table or the reader breaks its own rules.
+    BadState = 11,
+    // The assembly buffer has under 1,302 octets.
+    SmallAssembly = 12,
 }
 
 #[derive(Clone, Copy, PartialEq, Eq)]
@@ -42,8 +42,7 @@ impl Received {
         match self.heard {
             Ok(Heard::Read(fate)) => fate.number(),
             Ok(Heard::Body(_, _)) => 1,
-            Err(ReceiveRefusal::BadState) => 11,
-            Err(ReceiveRefusal::SmallAssembly) => 12,
+            Err(why) => why as u32,
         }
     }
 }
