@@ -3,7 +3,7 @@ use crate::frames::is_body;
 use crate::show::Case;
 use crate::text::{MAX_OCTETS, after_word, are_calls, bare, cut, number, octets};
 use crate::{show, text};
-use device::{Configured, Device, setup};
+use device::{BadSetup, Configured, Device, setup};
 use engine::{Answered, answer};
 use std::io::Stdout;
 
@@ -19,10 +19,10 @@ pub fn boxed(case: Case, told: bool) -> Option<()> {
         return None;
     }
     let configured = configured(head)?;
-    let (shown, _) = cut(case.shown, b':').unwrap_or((case.shown, b""));
+    let shown = cut(case.shown, b':').map_or(case.shown, |(head, _)| head);
     show::text(case.stdout, shown);
     let _ = print!(case.stdout; ":");
-    tell(case.stdout, configured.answer.number(), told);
+    tell(case.stdout, configured.answer, told);
     send(case.stdout, configured.device, calls);
     Some(())
 }
@@ -53,9 +53,11 @@ fn setting<'a>(text: &'a [u8], name: &[u8]) -> Option<&'a [u8]> {
 }
 
 // The answer of setup. A refusal is always told.
-fn tell(stdout: Stdout, number: u32, told: bool) {
-    if told || number != 0 {
-        let _ = print!(stdout; " {number}, then");
+fn tell(stdout: Stdout, answer: Result<(), BadSetup>, told: bool) {
+    if let Err(refusal) = answer {
+        let _ = print!(stdout; " {}, then", refusal.number());
+    } else if told {
+        let _ = print!(stdout; " 0, then");
     }
 }
 

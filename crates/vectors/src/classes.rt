@@ -32,7 +32,7 @@ fn name(class: Class) -> &'static str {
         Class::TooLong => "too long",
         Class::Short => "short",
         Class::BadHeader => "bad header",
-        Class::Stopped(_, _, _) => "stopped",
+        Class::UnsetLink | Class::Stopped(_) => "stopped",
         Class::Noop => "NOOP",
         Class::Reset => "RESET",
         Class::Reaches => "reaches",

@@ -2,7 +2,7 @@
 use crate::show;
 use crate::show::Case;
 use crate::text::{MAX_OCTETS, number, octets};
-use packed::{Cause, Fault, Packed, read_packed, write_packed};
+use packed::{Fault, Packed, read_packed, write_packed};
 use std::io::Stdout;
 
 // A number written, and what was written read back.
@@ -19,7 +19,7 @@ pub fn packed(case: Case) -> Option<()> {
     let _ = print!(case.stdout; " =");
     show::octets(case.stdout, octets);
     let _ = print!(case.stdout; ", ");
-    tell_packed(case.stdout, read_packed(octets, 0));
+    tell(case.stdout, read_packed(octets, 0));
     Some(())
 }
 
@@ -28,27 +28,24 @@ pub fn read(case: Case) -> Option<()> {
     let octets = octets(case.text, &mut out)?;
     case.show();
     let _ = print!(case.stdout; ": ");
-    tell_packed(case.stdout, read_packed(octets, 0));
+    tell(case.stdout, read_packed(octets, 0));
     Some(())
 }
 
-fn tell_packed(stdout: Stdout, p: Packed) {
-    match p {
-        Packed::Number(n, next) => {
-            let _ = print!(stdout; "{n} up to {next}");
+fn tell(stdout: Stdout, found: Result<Packed, Fault>) {
+    match found {
+        Ok(Packed { number, next }) => {
+            let _ = print!(stdout; "{number} up to {next}");
         }
-        Packed::Unreadable(fault) => {
+        Err(fault) => {
             let _ = print!(stdout; "unreadable{}", why(fault));
         }
     }
 }
 
 // The fault of a packed integer, where that is the cause.
-pub fn cause(cause: Cause) -> &'static str {
-    match cause {
-        Cause::None => "",
-        Cause::Integer(fault) => why(fault),
-    }
+pub fn cause(fault: Option<Fault>) -> &'static str {
+    fault.map_or("", why)
 }
 
 fn why(fault: Fault) -> &'static str {

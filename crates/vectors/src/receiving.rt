@@ -1,10 +1,11 @@
 // Receiving calls on any state and with any room (01, Octets on the wire): the answer, and what is handed back.
 ghost use Rattle.std.specs.Prelude.{◌<◌, IfSome};
+ghost use Rattle.property.specs.Number.{slot_count};
 
 use crate::show;
 use crate::show::Case;
-use crate::text::{MAX_OCTETS, after_word, bare, cut, first_word, number, octets};
-use device::{Device, Held, Link, Settings, Text, setup};
+use crate::text::{MAX_OCTETS, bare, cut, first_word, number, octets};
+use device::{Device, Link, Padded, setup};
 use hdlc::Reader;
 use property::slot;
 use serial::{Received, receive};
@@ -59,7 +60,7 @@ impl Given {
             b"link" => self.device = with_link(self.device, value)?,
             b"links" => self.device.settings.links = number(value)?,
             b"vendor" => self.device.settings.vendor = number(value)?,
-            b"text" => self.device.settings.text = text_of(value)?,
+            b"text" => self.device.settings.text = padded(value)?,
             b"power" => self.device.power = number(value)?,
             b"reader" => self.reader.count = number(value)?,
             b"escaped" => self.reader.escaped = flag(value)?,
@@ -94,15 +95,15 @@ fn with_link(device: Device, text: &[u8]) -> Option<Device> {
 fn changed_link(mut link: Link, field: &[u8], value: &[u8]) -> Option<Link> {
     match field {
         b"status" => link.status = number(value)?,
-        b"name" => link.name = held(value)?,
-        b"ports" => link.ports = held(value)?,
+        b"name" => link.name = padded(value)?,
+        b"ports" => link.ports = padded(value)?,
         _ => link.numbers[slot_of(field)?] = number(value)?,
     }
     Some(link)
 }
 
 fn slot_of(field: &[u8]) -> Option<usize>
-    ensures { IfSome result (λ slot. slot < 9) }
+    ensures { IfSome result (λ slot. slot < slot_count) }
 {
     match field {
         b"phy" => Some(slot::PHY_ENABLED),
@@ -119,22 +120,12 @@ fn slot_of(field: &[u8]) -> Option<usize>
 }
 
 // A count, and octets at the front of their place.
-fn text_of(value: &[u8]) -> Option<Text> {
+fn padded<const N: usize>(value: &[u8]) -> Option<Padded<N>> {
     let (len, text) = first_word(value);
-    let mut padded = [0u8; Device::MAX_TEXT];
-    octets(text, &mut padded)?;
-    Some(Text {
-        octets: padded,
-        len: number(len)?,
-    })
-}
-
-fn held(value: &[u8]) -> Option<Held> {
-    let (len, text) = first_word(value);
-    let mut padded = [0u8; Link::MAX_HELD];
-    octets(text, &mut padded)?;
-    Some(Held {
-        octets: padded,
+    let mut space = [0u8; N];
+    octets(text, &mut space)?;
+    Some(Padded {
+        octets: space,
         len: number(len)?,
     })
 }
@@ -159,13 +150,13 @@ fn call(stdout: Stdout, given: Given, input: &[u8]) {
 fn tell(stdout: Stdout, given: Given, received: Received) {
     let _ = print!(stdout;
         " = {}, read {}, wrote {}",
-        received.answer.number(),
+        received.number(),
         received.read,
         received.written
     );
     let _ = print!(stdout;
         ", box {}",
-        if same_device(given.device, received.device) {
+        if given.device == received.device {
             "as given"
         } else {
             "changed"
@@ -176,10 +167,7 @@ fn tell(stdout: Stdout, given: Given, received: Received) {
 
 // A reader that is another one is told in the words of a change.
 fn tell_reader(stdout: Stdout, given: Reader, reader: Reader) {
-    if given.count == reader.count
-        && given.escaped == reader.escaped
-        && given.discarding == reader.discarding
-    {
+    if given == reader {
         let _ = print!(stdout; ", reader as given");
         return;
     }
@@ -208,31 +196,4 @@ fn touched(stdout: Stdout, buffer: &[u8]) {
             show::octets(stdout, &rest[..end]);
         }
     }
-}
-
-fn same_device(a: Device, b: Device) -> bool {
-    a.power == b.power && same_settings(a.settings, b.settings) && same_links(a.links, b.links)
-}
-
-fn same_settings(a: Settings, b: Settings) -> bool {
-    a.address == b.address
-        && a.links == b.links
-        && a.vendor == b.vendor
-        && a.text.len == b.text.len
-        && a.text.octets == b.text.octets
-}
-
-fn same_links(a: [Link; Device::MAX_LINKS], b: [Link; Device::MAX_LINKS]) -> bool {
-    a.iter().zip(b.iter()).all(|(a, b)| same_link(*a, *b))
-}
-
-fn same_link(a: Link, b: Link) -> bool {
-    a.status == b.status
-        && a.numbers == b.numbers
-        && same_held(a.name, b.name)
-        && same_held(a.ports, b.ports)
-}
-
-fn same_held(a: Held, b: Held) -> bool {
-    a.len == b.len && a.octets == b.octets
 }

@@ -2,7 +2,7 @@
 use crate::show;
 use crate::show::Case;
 use crate::text::{MAX_OCTETS, bare, cut, number, octets};
-use capture::{Found, Written, read_record, write_record};
+use capture::{ReadError, Record, WriteError, read_record, write_record};
 use std::io::Stdout;
 
 pub fn read(case: Case) -> Option<()> {
@@ -15,23 +15,28 @@ pub fn read(case: Case) -> Option<()> {
     Some(())
 }
 
-fn tell_found(stdout: Stdout, found: Found) {
-    let _ = print!(stdout; " = {} {}", found.number(), name(found));
-    if let Found::At(record) = found {
-        let _ = print!(stdout;
-            ", direction {}, start {}, length {}, next {}",
-            record.direction, record.start, record.len, record.next
-        );
-    }
-}
-
-fn name(found: Found) -> &'static str {
+fn tell_found(stdout: Stdout, found: Result<Option<Record>, ReadError>) {
     match found {
-        Found::At(_) => "record",
-        Found::NoMore => "no more",
-        Found::BadMark => "bad mark",
-        Found::CutOff => "cut off",
-        Found::OutOfRange => "out of range",
+        Ok(Some(record)) => {
+            let _ = print!(stdout;
+                " = 0 record, direction {}, start {}, length {}, next {}",
+                u8::from(record.direction),
+                record.start,
+                record.len,
+                record.next
+            );
+        }
+        Ok(None) => {
+            let _ = print!(stdout; " = 0 no more");
+        }
+        Err(error) => {
+            let word = match error {
+                ReadError::BadMark => "bad mark",
+                ReadError::CutOff => "cut off",
+                ReadError::OutOfRange => "out of range",
+            };
+            let _ = print!(stdout; " = {} {word}", error.number());
+        }
     }
 }
 
@@ -53,11 +58,17 @@ pub fn write(case: Case) -> Option<()> {
     Some(())
 }
 
-fn tell_written(stdout: Stdout, written: Written) {
-    let word = match written {
-        Written::Next(_) => "written",
-        Written::OutOfRange => "out of range",
-        Written::NoRoom => "no room",
-    };
-    let _ = print!(stdout; " = {} {word}, next {}", written.number(), written.next());
+fn tell_written(stdout: Stdout, written: Result<usize, WriteError>) {
+    match written {
+        Ok(next) => {
+            let _ = print!(stdout; " = 0 written, next {next}");
+        }
+        Err(error) => {
+            let word = match error {
+                WriteError::OutOfRange => "out of range",
+                WriteError::NoRoom => "no room",
+            };
+            let _ = print!(stdout; " = {} {word}, next 0", error.number());
+        }
+    }
 }

@@ -1,4 +1,4 @@
-// Printing on standard output. What cannot be written is lost: whoever compares the output sees it.
+// Printing on standard output, here and by `print!`. What cannot be written is lost: whoever compares the output sees it.
 use hdlc::Reader;
 use lines::write_line;
 use std::io::Stdout;

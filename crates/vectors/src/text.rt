@@ -81,7 +81,7 @@ fn read_part(text: &[u8], out: &mut [u8]) -> Option<usize> {
 
 fn spelled(text: &[u8], out: &mut [u8]) -> Option<usize> {
     match read_line(text, out) {
-        HexLine::Octets(n) if 0 < n => Some(n),
+        Some(HexLine::Octets(n)) if 0 < n => Some(n),
         _ => None,
     }
 }
@@ -93,7 +93,8 @@ fn repeated(count: usize, text: &[u8], out: &mut [u8]) -> Option<usize> {
     (0 < count).then_some(count)
 }
 
-// Whether a text spells calls, a bar between two.
+// Whether a text spells calls, a bar between two. All are read before one is run, which reads it again: there may be any number of them, and
+// a buffer has room for one.
 pub fn are_calls(text: &[u8]) -> bool {
     text.split(|letter| *letter == b'|')
         .all(|text| is_call(bare(text)))

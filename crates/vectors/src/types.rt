@@ -2,7 +2,7 @@
 use crate::show::Case;
 use crate::text::{MAX_OCTETS, bare, cut, number, octets};
 use crate::{integers, show};
-use datatype::{Answer, Payload, read_typed};
+use datatype::{Payload, Refusal, read_typed};
 use std::io::Stdout;
 
 // The longest list that is lent: one that is always long enough.
@@ -50,7 +50,9 @@ fn read(stdout: Stdout, types: &[u8], payload: &[u8], told: List) {
         List::All => MAX_LIST,
         List::First(n) | List::Last(n) => n.min(MAX_LIST),
     };
-    let count = answered(stdout, read_typed(types, payload, &mut list[..lent]));
+    let answer = read_typed(types, payload, &mut list[..lent]);
+    tell(stdout, answer);
+    let count = answer.unwrap_or(0);
     let (leaves, _) = list.as_chunks::<3>();
     let leaves = leaves.iter().take(count);
     match told {
@@ -71,17 +73,14 @@ fn read(stdout: Stdout, types: &[u8], payload: &[u8], told: List) {
     }
 }
 
-// Tells the answer's number and its cause, and returns how many leaves there are.
-fn answered(stdout: Stdout, answer: Answer) -> usize {
-    let _ = print!(stdout; "{}", answer.number());
+// The answer's number, and how many leaves there are or why there are none.
+fn tell(stdout: Stdout, answer: Result<usize, Refusal>) {
     match answer {
-        Answer::Leaves(count) => {
-            let _ = print!(stdout; " with {count}");
-            count
+        Ok(count) => {
+            let _ = print!(stdout; "0 with {count}");
         }
-        _ => {
-            let _ = print!(stdout; "{}", integers::cause(answer.cause()));
-            0
+        Err(refusal) => {
+            let _ = print!(stdout; "{}{}", refusal.number(), integers::cause(refusal.cause()));
         }
     }
 }

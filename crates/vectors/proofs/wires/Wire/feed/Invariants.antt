@@ -1,7 +1,7 @@
 -- The measure is how much of the chunk is left.
 use Prim.Native.Nat.{◌≤◌}
 use lib.ListN.{length}
-use Rattle.vectors.proofs.wires.feed.Given as goal
+use Rattle.vectors.proofs.wires.Wire.feed.Given as goal
 
 abbrev pub invariant-loop-rest : goal.invariant-loop-rest
 invariant-loop-rest l =
