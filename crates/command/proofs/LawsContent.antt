@@ -15,6 +15,7 @@ use Rattle.property.specs.declared.row.Row.{Row}
 use Rattle.property.proofs.TableRule.{slot_below}
 use Rattle.device.specs.Rules.{settings_rule, link_rule}
 use Rattle.device.proofs.StateRules.{link_from}
+use Rattle.device.specs.declared.state.Link.{Link}
 use Rattle.device.specs.declared.view.View.{View}
 use Rattle.device.specs.View.{after}
 use Rattle.std.specs.Prelude.{Ok, Err}
@@ -33,6 +34,13 @@ by_nine : (t : Bool) (x : Outcome) (d : Performed) → cond t x (Err ParseError)
 by_nine true x d h = refl
 by_nine false x d h = impossible cc
 
+-- a command that was performed leaves a link that keeps its rule
+pub link_left : (l : Link) (c : Command) (r : Row) (p : List ℕ) (d : Performed)
+    → link_rule l ≡ true → row_rule r ≡ true → perform l c r.kind p ≡ Ok d → link_rule d.link ≡ true
+link_left l c r p d t rule h =
+    let kept = rw h at (perform_kept l t c r.kind p (λ slot k. slot_below r slot k rule)) in
+    link_from d.link kept.facts
+
 -- the value held after a command that was performed, or its item
 pub content_size : (v : View) (c : Command) (r : Row) (p : List ℕ) (d : Performed)
     → settings_rule v.settings ≡ true → link_rule v.link ≡ true → row_rule r ≡ true → perform v.link c r.kind p ≡ Ok d
@@ -40,9 +48,7 @@ pub content_size : (v : View) (c : Command) (r : Row) (p : List ℕ) (d : Perfor
 content_size v c r p d s l t h = by c h
   where
     after_size : (c : Command) → perform v.link c r.kind p ≡ Ok d → length (value_of (after v d.effect d.link) r.kind) ≤ max_content
-    after_size c h =
-        let kept = rw h at (perform_kept v.link l c r.kind p (λ slot k. slot_below r slot k t)) in
-        value_size (after v d.effect d.link) s (link_from _ kept.facts) r.kind (λ slot k. slot_below r slot k t)
+    after_size c h = value_size (after v d.effect d.link) s (link_left v.link c r p d l t h) r.kind (λ slot k. slot_below r slot k t)
 
     by : (c : Command) → perform v.link c r.kind p ≡ Ok d → length (content (after v d.effect d.link) c r.kind p) ≤ max_content
     by Get h = unfold content in after_size Get h

@@ -34,7 +34,7 @@ fn report_status(link: Link, header: u8, status: u8, out: &mut [u8]) -> Decided
 }
 
 // Steps 6 to 8.
-#[tactic(auto, unfolding(crate::specs::Decision::reached, crate::specs::Decision::concluded, crate::specs::Decision::decision_of))]
+#[tactic(auto, using(crate::proofs::LawsContent::link_left, crate::proofs::LawsContent::content_size), unfolding(crate::specs::Decision::reached, crate::specs::Decision::concluded, crate::specs::Decision::decision_of))]
 fn reach(view: View, asked: Asked, out: &mut [u8]) -> Decided
     requires { (settings_rule view.settings ≡ true) × (link_rule view.link ≡ true) × (row_rule asked.row ≡ true) × (max_reply ≤ length out.old) }
     ensures { Did (decision_of view asked.entry.header (reached view asked.entry.header asked.entry.command asked.entry.row asked.entry.payload.now)) result out.old out.new }
@@ -49,7 +49,7 @@ fn reach(view: View, asked: Asked, out: &mut [u8]) -> Decided
 }
 
 // Steps 2 to 8.
-#[tactic(auto, unfolding(crate::specs::Decision::decide, crate::specs::Decision::judged, crate::specs::Decision::judged_by, crate::specs::Decision::decision_of))]
+#[tactic(auto, using(request::proofs::LawsVerdict::payload_start), unfolding(crate::specs::Decision::decide, crate::specs::Decision::judged, crate::specs::Decision::judged_by, crate::specs::Decision::decision_of))]
 pub fn decide(view: View, body: &[u8], out: &mut [u8]) -> Decided
     requires { (settings_rule view.settings ≡ true) × (link_rule view.link ≡ true) × (0 < length body.now) × (max_reply ≤ length out.old) }
     ensures { Did (decide view body.now) result out.old out.new }

@@ -5,6 +5,7 @@ ghost use Rattle.device.specs.Ports.{ports_in, distinct, port_place};
 use octets::read_le;
 
 // The place of a port's first octet, if it is there.
+#[tactic(auto, using(crate::proofs::LawsPorts::behind_length, crate::proofs::LawsPorts::port_here, crate::proofs::LawsPorts::port_on, crate::proofs::LawsPorts::port_none), unfolding(crate::specs::Ports::port_place))]
 pub fn find_port(octets: &[u8], port: u32) -> Option<usize>
     ensures { result ≡ port_place port octets.now }
 {
@@ -19,6 +20,7 @@ pub fn find_port(octets: &[u8], port: u32) -> Option<usize>
 }
 
 // Whether no port stands twice.
+#[tactic(auto, using(crate::proofs::LawsPorts::distinct_next, crate::proofs::LawsPorts::distinct_none, crate::proofs::LawsPorts::place_held))]
 pub fn are_distinct(octets: &[u8]) -> bool
     ensures { result ≡ distinct (ports_in octets.now) }
 {

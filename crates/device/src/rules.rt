@@ -43,6 +43,7 @@ pub fn stack_keeps(numbers: [u32; slot::COUNT]) -> bool
 }
 
 impl Link {
+    #[tactic(auto, using(octets::proofs::LawsScanning::scan_on, octets::proofs::LawsScanning::scan_stop, octets::proofs::LawsScanning::scan_end), unfolding(crate::specs::Rules::in_range, octets::specs::Scanning::all_below))]
     fn numbers_keep(&self) -> bool
         ensures { result ≡ in_range self.now.numbers }
     {
@@ -67,6 +68,7 @@ impl Link {
     }
 
     // Whether it may be one that is not, which holds the defaults.
+    #[tactic(auto, using(crate::proofs::LawsFresh::same_fresh))]
     fn is_fresh(&self) -> bool
         ensures { result ≡ is_fresh self.now }
     {
@@ -98,6 +100,7 @@ impl Settings {
 }
 
 impl Device {
+    #[tactic(auto, using(octets::proofs::LawsScanning::scan_on, octets::proofs::LawsScanning::scan_stop, octets::proofs::LawsScanning::scan_end), unfolding(octets::specs::Scanning::all_below))]
     fn links_keep(&self) -> bool
         ensures { result ≡ all_below max_links (λ k. link_kept self.now.settings.links (get_or self.now.links k no_link) k) }
     {

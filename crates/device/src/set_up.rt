@@ -24,6 +24,7 @@ pub struct Configured {
 }
 
 // A fresh box of one link, vendor 0, empty text, zero address.
+#[tactic(auto, unfolding(crate::specs::Setup::refusal, octets::specs::Padding::pad))]
 fn refuse() -> Configured
     ensures { reported result ≡ refusal }
 {
@@ -38,6 +39,7 @@ fn refuse() -> Configured
     }
 }
 
+#[tactic(auto, using(crate::proofs::LawsRules::padded_alone, crate::proofs::LawsSetup::text_long, crate::proofs::LawsSetup::address_wrong, crate::proofs::LawsSetup::setup_rule), unfolding(crate::specs::Setup::setup_for))]
 pub fn setup(links: usize, vendor: u32, text: &[u8], address: &[u8]) -> Configured
     ensures { reported result ≡ setup_for links vendor text.now address.now }
 {

@@ -55,6 +55,7 @@ pub fn default_power() -> u8
 }
 
 // The numbers of a fresh link, by slot.
+#[tactic(auto, using(crate::proofs::LawsRules::default_at, octets::proofs::LawsWriting::put_next), unfolding(crate::specs::State::defaults, property::specs::Number::numbers))]
 fn default_numbers() -> [u32; slot::COUNT]
     ensures { result ≡ defaults }
 {
@@ -104,7 +105,6 @@ impl Link {
     pub const MAX_HELD: usize = 16;
 
     // A link with every default.
-    #[tactic(auto, unfolding(crate::specs::State::fresh))]
     pub fn fresh() -> Link
         ensures { result ≡ fresh_link }
     {
@@ -131,6 +131,7 @@ impl Device {
     pub const MIN_OUTPUT: usize = 128;
 
     // A box as after a reset.
+    #[tactic(auto, unfolding(crate::specs::State::fresh))]
     pub fn fresh(settings: Settings) -> Device
         ensures { result ≡ fresh settings }
     {

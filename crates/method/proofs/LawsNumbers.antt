@@ -1,5 +1,5 @@
 -- Laws of the numbers that payloads hold.
-use mathlib.Core.Path.{◌≡◌, ap}
+use mathlib.Core.Path.{◌≡◌, refl, ap}
 use mathlib.Core.Bool.{true}
 use mathlib.Core.List.{List}
 use Prim.Native.Nat.{ℕ, ◌≤◌}
@@ -10,7 +10,7 @@ use lib.ListN.{length}
 use lib.Seq.{take_all}
 use Rattle.octets.specs.LittleEndian.{le, le_at}
 use Rattle.octets.proofs.LawsTests.{by_test, impossible}
-use Rattle.property.specs.Number.{within}
+use Rattle.property.specs.Number.{power_state, within}
 use Rattle.property.specs.declared.number.Number.{Number as Numeric}
 use Rattle.method.specs.Set.{value_in}
 use Rattle.std.specs.Prelude.{Ok}
@@ -40,3 +40,7 @@ within_most n v up t =
     by_test (ltb n.top v)
     (λ e. let no = rw e at t in impossible cc)
     (λ e. by_test (ltb v n.low) (λ f. let no = rw (e, up, f) at t in impossible cc) (λ f. leb-true v n.high (rw (e, up, f) at t)))
+
+-- a power state that is read is 0 to 4
+pub power_most : (p : List ℕ) (v : ℕ) → value_in power_state p ≡ Ok v → v ≤ 4
+power_most p v e = within_most power_state v refl (value_within power_state p v e)

@@ -9,12 +9,15 @@ use borrow.Author.Tests.{eqb-true, eqb-false}
 use lib.Dec.{eqb, leb}
 use lib.ListN.{length, get_or, set}
 use lib.Seq.{get_or-set_same, get_or-set_other}
+use Rattle.std.specs.Prelude.{Ok}
 use Rattle.octets.proofs.LawsScanning.{all_at}
 use Rattle.octets.proofs.LawsTests.{by_test}
 use Rattle.property.specs.Number.{bool, numbers, number_at, interface_up, stack_up, within, slot_count}
-use Rattle.device.specs.Rules.{in_range, stack_rule}
-use Rattle.method.specs.Set.{conflicts}
-use Rattle.method.proofs.LawsNumbers.{within_most}
+use Rattle.device.specs.Rules.{in_range, stack_rule, link_rule}
+use Rattle.device.specs.declared.state.Link.{Link}
+use Rattle.device.proofs.StateRules.{link_told, nine_numbers}
+use Rattle.method.specs.Set.{value_in, conflicts}
+use Rattle.method.proofs.LawsNumbers.{value_within, within_most}
 
 -- of two bools, the stack's and the interface's
 up_without : (stack interface : ℕ) → stack ≤ 1 → interface ≤ 1 → eqb stack 1 && eqb interface 0 ≡ not (leb stack interface)
@@ -52,3 +55,10 @@ module _ (held : List ℕ) (nine : length held ≡ slot_count) (range : in_range
       either : (t : Bool) → t || false ≡ t
       either true = refl
       either false = refl
+
+-- the same of a value that is read for a link
+pub conflict_read : (l : Link) (slot v : ℕ) (p : List ℕ) → link_rule l ≡ true → value_in (number_at slot) p ≡ Ok v
+    → conflicts l.numbers slot v ≡ not (stack_rule (set l.numbers slot v))
+conflict_read l slot v p t e =
+    let f = link_told l t in
+    conflict_test l.numbers (nine_numbers l t) f.range f.stack slot v (value_within (number_at slot) p v e)

@@ -21,7 +21,7 @@ fn read_port(payload: &[u8]) -> Result<u32, Status>
     Ok(read_le(payload, 0, 2))
 }
 
-#[tactic(auto, unfolding(crate::specs::Items::insert_port, crate::specs::Items::port_in))]
+#[tactic(auto, using(device::proofs::LawsPorts::place_held, device::proofs::StateRules::ports_room, device::proofs::StateRules::ports_even, crate::proofs::LawsItems::ports_count, crate::proofs::LawsItems::port_read), unfolding(crate::specs::Items::insert_port, crate::specs::Items::port_in))]
 pub fn insert(link: Link, payload: &[u8]) -> Result<Performed, Status>
     requires { link_rule link ≡ true }
     ensures { result ≡ insert_port link payload.now }
@@ -49,7 +49,7 @@ fn close_gap(octets: &[u8], at: usize) -> Held
     Held::of(&octets[..at], &octets[at + 2..])
 }
 
-#[tactic(auto, unfolding(crate::specs::Items::remove_port, crate::specs::Items::port_in))]
+#[tactic(auto, using(device::proofs::LawsPorts::place_told, device::proofs::LawsPorts::place_none, device::proofs::StateRules::ports_room, crate::proofs::LawsItems::port_inside, crate::proofs::LawsItems::port_read), unfolding(crate::specs::Items::remove_port, crate::specs::Items::port_in))]
 pub fn remove(link: Link, payload: &[u8]) -> Result<Performed, Status>
     requires { link_rule link ≡ true }
     ensures { result ≡ remove_port link payload.now }

@@ -29,7 +29,7 @@ fn read_number(number: Number, payload: &[u8]) -> Result<u32, Status>
 }
 
 // Any of the nine numbers. Stack and interface are the only two that hang together: the numbers as they would be are tested.
-#[tactic(auto, unfolding(crate::specs::Set::set_number, crate::specs::Set::number_to))]
+#[tactic(auto, using(crate::proofs::StackAndInterface::conflict_read), unfolding(crate::specs::Set::set_number, crate::specs::Set::number_to))]
 fn set_number(link: Link, slot: usize, payload: &[u8]) -> Result<Performed, Status>
     requires { (slot < slot_count) × (link_rule link ≡ true) }
     ensures { result ≡ set_number link slot payload.now }
@@ -44,7 +44,7 @@ fn set_number(link: Link, slot: usize, payload: &[u8]) -> Result<Performed, Stat
 }
 
 // The power state is the whole box's: the link stays as it is.
-#[tactic(auto, using(crate::proofs::LawsNumbers::value_within, crate::proofs::LawsNumbers::within_most), unfolding(crate::specs::Set::set_power, crate::specs::Set::power_to))]
+#[tactic(auto, using(crate::proofs::LawsNumbers::power_most), unfolding(crate::specs::Set::set_power, crate::specs::Set::power_to))]
 fn set_power(link: Link, payload: &[u8]) -> Result<Performed, Status>
     ensures { result ≡ set_power link payload.now }
 {
@@ -73,7 +73,7 @@ fn set_name(link: Link, payload: &[u8]) -> Result<Performed, Status>
     }))
 }
 
-#[tactic(auto, using(crate::proofs::LawsItems::ports_count), unfolding(crate::specs::Set::set_ports))]
+#[tactic(auto, using(crate::proofs::LawsItems::ports_count, device::proofs::LawsRules::padded_alone), unfolding(crate::specs::Set::set_ports))]
 fn set_ports(link: Link, payload: &[u8]) -> Result<Performed, Status>
     ensures { result ≡ set_ports link payload.now }
 {

@@ -54,6 +54,7 @@ fn write_content(out: &mut [u8], at: usize, view: View, asked: Asked) -> usize
     }
 }
 
+#[tactic(auto, using(packed::proofs::ReadsBack::packed_size, property::proofs::TableRule::small_id), unfolding(crate::specs::Reply::success_reply))]
 pub fn write_reply(out: &mut [u8], view: View, asked: Asked) -> usize
     requires rules { (settings_rule view.settings ≡ true) × (link_rule view.link ≡ true) × (row_rule asked.row ≡ true) }
     requires room { (max_reply ≤ length out.old) × (length (content view asked.command asked.row.kind asked.payload.now) ≤ max_content) }
