@@ -4,7 +4,7 @@ use mathlib.Core.Path.{◌≡◌, refl, sym, ap, ◌∙◌}
 use mathlib.Core.List.{List, [], ◌∷◌, foldl}
 use Prim.Native.Nat.{ℕ, zero, suc, ◌+◌, ◌-◌, ◌*◌, ◌≤◌, ◌<◌}
 use native.Mathlib.Omega.{arith}
-use borrow.Author.Tests.{ne_eqb, lt-ltb, ltb-false, eqb-false, leb-true, leb-false}
+use borrow.Author.Tests.{eq-eqb, ne_eqb, eqb-true, lt-ltb, ltb-false, eqb-false, leb-true, leb-false}
 use lib.Dec.{eqb, ltb, leb, eqb-zero-suc, eqb-suc-suc}
 use lib.ListN.{length, get_or, take, drop, length-take, length-drop}
 use lib.Seq.{take_all}
@@ -21,13 +21,22 @@ use Rattle.transaction_script.specs.Line.{max_text}
 
 -- ---- words
 
--- in the library's words
+-- in the library's words, of `strip_prefix` and of `starts_with`
 pub starts_is : (text word : List ℕ) → starts_with text word ≡ pointwise eqb (take (length word) text) word
 unfolding starts_with common_front
 starts_is [] [] = refl
 starts_is [] (y ∷ ys) = rw eqb-zero-suc
 starts_is (x ∷ xs) [] = refl
 starts_is (x ∷ xs) (y ∷ ys) = by_test (eqb x y) (λ t. simp (t, eqb-suc-suc) (starts_is xs ys)) (λ t. simp (t, eqb-zero-suc))
+
+pub starts_front : (text word : List ℕ) → starts_with text word ≡ pointwise eqb word (take (length word) text)
+unfolding starts_with common_front
+starts_front [] [] = refl
+starts_front [] (y ∷ ys) = rw eqb-zero-suc
+starts_front (x ∷ xs) [] = refl
+starts_front (x ∷ xs) (y ∷ ys) =
+    by_test (eqb x y) (λ t. simp (t, eq-eqb y x (sym (eqb-true x y t)), eqb-suc-suc) (starts_front xs ys))
+    (λ t. simp (t, ne_eqb y x (λ e. eqb-false x y t (sym e)), eqb-zero-suc))
 
 common_take : (n : ℕ) (xs ys : List ℕ) → length ys ≤ n → common_front (take n xs) ys ≡ common_front xs ys
 unfolding common_front

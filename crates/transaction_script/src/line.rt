@@ -76,7 +76,7 @@ impl Line {
     }
 
     // What the line asks for, when it has ended; none where it is no event.
-    #[tactic(auto, using(crate::proofs::LawsEvent::starts_is), unfolding(crate::specs::Line::event_at))]
+    #[tactic(auto, using(crate::proofs::LawsEvent::starts_front), unfolding(crate::specs::Line::event_at))]
     pub fn event(self) -> Option<Event>
         requires { self.len ≤ max_text }
         ensures { result ≡ event_at self }

@@ -55,6 +55,7 @@ fn write_fitting(body: &[u8], out: &mut [u8]) -> usize
 
 // Writes the frame of a command on a link, under a number that the table handed out. Writes nothing and returns 0 where the link is above 3, the
 // number is not 1 to 15, the command is above 2,097,151 or RESET, the body would be longer than 1,300 octets, or its frame does not fit.
+#[tactic(auto, using(crate::proofs::LawsWriting::sendable_told, packed::proofs::ReadsBack::packed_size, crate::proofs::LawsWriting::command_none))]
 pub fn write_command(link: u8, number: u8, command: u32, payload: &[u8], out: &mut [u8]) -> usize
     ensures { written result out.new ≡ writing_command link number command payload.now out.old }
 {

@@ -10,7 +10,7 @@ use Rattle.octets.proofs.LawsWriting.{wrote_both, front_count, front_held}
 use Rattle.packed.specs.Packed.{packed}
 use Rattle.packed.proofs.ReadsBack.{packed_size}
 use Rattle.transactions.specs.Writing.{header, command_body, writing_fitting}
-use Rattle.transactions.proofs.LawsWriting.{sendable_told, body_size, command_none, command_long, command_fitting}
+use Rattle.transactions.proofs.LawsWriting.{body_size, command_long, command_fitting}
 use Rattle.transactions.proofs.writing.write_command.Goals as goal
 
 abbrev space : List ℕ
@@ -45,44 +45,6 @@ module _ (link number command : ℕ) (payload h0 h1 h2 : List ℕ) (a b e : ℕ)
     stands =
         ap₂ take ends (front_held {s = space} (rw (length-replicate {A = ℕ} 1300 0) size) all)
         ∙ take-append_seam (command_body link number command payload) _
-
-pub returns-then-not-is_sendable : goal.returns-then-not-is_sendable
-returns-then-not-is_sendable c =
-    sym (command_none _ _ _ _ _ (sym c.is_sendable.ensures ∙ c.if-not-is_sendable.true))
-
-pub overflow_mul-link : goal.overflow_mul-link
-overflow_mul-link c =
-    omega (arith, (sendable_told _ _ _ (sym c.is_sendable.ensures ∙ c.if-not-is_sendable.false)).link)
-
-pub overflow_add-link : goal.overflow_add-link
-overflow_add-link c =
-    omega (arith, (sendable_told _ _ _ (sym c.is_sendable.ensures ∙ c.if-not-is_sendable.false)).link)
-
-pub overflow_add-link-2 : goal.overflow_add-link-2
-overflow_add-link-2 c =
-    let f = sendable_told _ _ _ (sym c.is_sendable.ensures ∙ c.if-not-is_sendable.false) in omega (arith, f.link, f.most)
-
-pub write_packed-at_payload-requires : goal.write_packed-at_payload-requires
-write_packed-at_payload-requires c =
-    let w = c.write_octet-at_command.ensures in (
-      (sendable_told _ _ _ (sym c.is_sendable.ensures ∙ c.if-not-is_sendable.false)).packs,
-      omega (
-        arith,
-        w.end,
-        ap length w.held,
-        length-sets space 0 (header c.args.link c.args.number ∷ []),
-        length-replicate {A = ℕ} 1300 0,
-        (packed_size c.args.command).1,
-      ),
-    )
-
-pub overflow_sub-at_payload : goal.overflow_sub-at_payload
-overflow_sub-at_payload c =
-    omega (
-      arith,
-      head_ends c.args.link c.args.number c.args.command [] _ _ [] _ _ 0 c.write_octet-at_command.ensures c.write_packed-at_payload.ensures,
-      (packed_size c.args.command).1,
-    )
 
 pub returns-then-at_payload-payload : goal.returns-then-at_payload-payload
 returns-then-at_payload-payload c =
