@@ -1,6 +1,7 @@
 // Receiving calls on any state and with any room (01, Octets on the wire): the answer, and what is handed back.
-ghost use Rattle.std.specs.Prelude.{◌<◌, IfSome};
+ghost use Rattle.std.specs.Prelude.{◌<◌, ◌≤◌, IfSome};
 ghost use Rattle.property.specs.Number.{slot_count};
+ghost use Rattle.vectors.specs.declared.text.TheConstants.{MAX_OCTETS};
 
 use crate::show;
 use crate::show::Case;
@@ -21,6 +22,7 @@ struct Given {
     reader: Reader,
     assembly: usize,
     output: usize,
+    ghost within: { (assembly ≤ MAX_OCTETS) × (output ≤ MAX_OCTETS) },
 }
 
 pub fn received(case: Case) -> Option<()> {
@@ -38,7 +40,7 @@ fn changed(changes: &[u8]) -> Option<Given> {
     let mut given = Given::unchanged();
     for change in changes.split(|letter| *letter == b',') {
         let (field, value) = first_word(bare(change));
-        given = given.with(field, value)?;
+        given.change(field, value)?;
     }
     Some(given)
 }
@@ -55,9 +57,9 @@ impl Given {
     }
 
     // `link 1 status 127` changes a link, `vendor 7` what is no link's.
-    fn with(mut self, field: &[u8], value: &[u8]) -> Option<Given> {
+    fn change(&mut self, field: &[u8], value: &[u8]) -> Option<()> {
         match field {
-            b"link" => self.device = with_link(self.device, value)?,
+            b"link" => change_link(&mut self.device.links, value)?,
             b"links" => self.device.settings.links = number(value)?,
             b"vendor" => self.device.settings.vendor = number(value)?,
             b"text" => self.device.settings.text = padded(value)?,
@@ -69,7 +71,7 @@ impl Given {
             b"output" => self.output = room(value)?,
             _ => return None,
         }
-        Some(self)
+        Some(())
     }
 }
 
@@ -78,28 +80,25 @@ fn flag(value: &[u8]) -> Option<bool> {
     value.is_empty().then_some(true)
 }
 
-fn room(value: &[u8]) -> Option<usize> {
+fn room(value: &[u8]) -> Option<usize>
+    ensures { IfSome result (λ n. n ≤ MAX_OCTETS) }
+{
     number(value).filter(|n| *n <= MAX_OCTETS)
 }
 
-fn with_link(device: Device, text: &[u8]) -> Option<Device> {
-    let mut device = device;
+// `1 status 127`.
+fn change_link(links: &mut [Link], text: &[u8]) -> Option<()> {
     let (k, change) = first_word(text);
     let (field, value) = first_word(change);
     let k: usize = number(k)?;
-    let link = *device.links.get(k)?;
-    device.links[k] = changed_link(link, field, value)?;
-    Some(device)
-}
-
-fn changed_link(mut link: Link, field: &[u8], value: &[u8]) -> Option<Link> {
+    let link = links.get_mut(k)?;
     match field {
         b"status" => link.status = number(value)?,
         b"name" => link.name = padded(value)?,
         b"ports" => link.ports = padded(value)?,
         _ => link.numbers[slot_of(field)?] = number(value)?,
     }
-    Some(link)
+    Some(())
 }
 
 fn slot_of(field: &[u8]) -> Option<usize>
@@ -137,8 +136,8 @@ fn call(stdout: Stdout, given: Given, input: &[u8]) {
         given.device,
         given.reader,
         input,
-        &mut assembly[..given.assembly.min(MAX_OCTETS)],
-        &mut output[..given.output.min(MAX_OCTETS)],
+        &mut assembly[..given.assembly],
+        &mut output[..given.output],
     );
     tell(stdout, given, received);
     let _ = print!(stdout; ", assembly");
