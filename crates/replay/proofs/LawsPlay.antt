@@ -16,10 +16,11 @@ use Rattle.device.specs.declared.state.Device.{Device}
 use Rattle.engine.specs.Engine.{engine}
 use Rattle.engine.proofs.ReplyBounds.{reply_bounds}
 use Rattle.engine.proofs.RulesKept.{body_keeps}
-use Rattle.replay.specs.declared.play.Playback.{Playback}
-use Rattle.replay.specs.Play.{state_of, Keeps, delivered}
+use Rattle.replay.specs.declared.play.Playback.TheInside.{Inside}
+use Rattle.replay.specs.Play.{delivered}
+use Rattle.replay.specs.Playback.{state_of, Keeps}
 
-module _ (d : Device) (b : List ℕ) {space : List ℕ} {p : Playback} (kept : rules d ≡ true) (room : max_reply ≤ length space)
+module _ (d : Device) (b : List ℕ) {space : List ℕ} {p : Inside} (kept : rules d ≡ true) (room : max_reply ≤ length space)
     (device : p.device ≡ (engine d b).device) (w : Wrote space p.reply 0 p.len (engine d b).reply) where
   fits : length (engine d b).reply ≤ length space
   fits = omega (arith, reply_bounds d b kept)

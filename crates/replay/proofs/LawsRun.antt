@@ -7,8 +7,7 @@ use lib.ListN.{length-append}
 use Rattle.std.specs.Prelude.{Bool, Option}
 use Rattle.octets.proofs.LawsTests.{impossible}
 use Rattle.capture.specs.Records.{Entry}
-use Rattle.replay.specs.declared.play.Playback.{Playback}
-use Rattle.replay.specs.Play.{State, state_of, after_all}
+use Rattle.replay.specs.Play.{State, after_all}
 use Rattle.replay.specs.Chunks.{IsChunk, entry_in, is_none, after_chunk}
 use Rattle.replay.specs.Run.{has_ended, Turned, AllRecords, none, more, Ran}
 
@@ -24,9 +23,9 @@ unfolding after_all
 stays s [] e = refl
 stays s (a ∷ es) e = impossible (cc e)
 
-module _ (s t : State) (p : Playback) {line : Option (Option Bool)} (xs : List ℕ) (n : ℕ) (r : Ran s t n) (w : Turned t p line xs) where
+module _ (s t p : State) {line : Option (Option Bool)} (xs : List ℕ) (n : ℕ) (r : Ran s t n) (w : Turned t p line xs) where
   -- a record more
-  pub ran_next : IsChunk xs → has_ended line ≡ false → Ran s (state_of p) (n + 1)
+  pub ran_next : IsChunk xs → has_ended line ≡ false → Ran s p (n + 1)
   ran_next f on =
       record {
         chunks = r.chunks ++ (xs ∷ []);
@@ -36,7 +35,7 @@ module _ (s t : State) (p : Playback) {line : Option (Option Bool)} (xs : List �
       }
 
   -- a chunk that is no record leaves the box as it stands
-  pub ran_last : has_ended line ≡ true → Ran s (state_of p) n
+  pub ran_last : has_ended line ≡ true → Ran s p n
   unfolding after_chunk
   ran_last off =
       record {

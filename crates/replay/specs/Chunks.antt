@@ -1,14 +1,9 @@
 -- A log's octets, read a record at a time. A chunk is what is read for one record: its head, and then the body that the head announces.
 use Rattle.std.specs.Prelude.{Bool, true, false, cond, ◌&&◌, List, [], ◌∷◌, map, ℕ, ◌+◌, ◌≤◌, eqb, length, take}
-use Rattle.octets.specs.Body.{max_body}
 use Rattle.capture.specs.Records.{Entry, head_size}
 use Rattle.capture.specs.Reading.{length_in, read_front}
 use Rattle.capture.specs.Logs.{entry_of}
 use Rattle.replay.specs.Play.{State, after_all, lines_from}
-
--- the longest record
-abbrev pub max_record : ℕ
-max_record = head_size + max_body
 
 -- how many octets of a body are to come behind five octets that are a good head: their record is cut off (22), and nothing else is wrong with
 -- it. Behind any others none

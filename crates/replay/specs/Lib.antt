@@ -1,3 +1,4 @@
 pub mod Play
+pub mod Playback
 pub mod Chunks
 pub mod Run

@@ -1,16 +1,14 @@
 -- A log's records replayed (02, T-05): "A program replays a log's to-box records from standard input through 01's program box and prints a line
 -- for each from-box record: `yes` if the record just before is to-box and this is its reply, else `no`."
-use Rattle.std.specs.Prelude.{Bool, true, cond, Option, Some, None, ◌≡◌, ℕ, ◌/◌, ◌≤◌, eqb, length, take}
+use Rattle.std.specs.Prelude.{Bool, cond, Option, Some, None, ◌≡◌, ℕ, ◌/◌, eqb}
 use mathlib.Core.List.{List, [], ◌∷◌, ◌++◌, foldl}
 use Rattle.octets.specs.Body.{header_of}
 use Rattle.octets.specs.Comparing.{is_same}
 use Rattle.octets.specs.Runs.{each, emitted}
 use Rattle.capture.specs.Records.{Entry, to_box}
-use Rattle.device.specs.Rules.{rules}
 use Rattle.device.specs.declared.state.Device.{Device}
 use Rattle.engine.specs.Engine.{engine}
 use Rattle.engine.specs.Merged.{device_after}
-use Rattle.replay.specs.declared.play.Playback.{Playback}
 
 -- ---- between two records
 
@@ -21,13 +19,6 @@ pub record State : Type 0 where
 
 abbrev pub silent : Device → State
 silent d = record { device = d; reply = [] }
-
-abbrev pub state_of : Playback → State
-state_of p = record { device = p.device; reply = take p.len p.reply }
-
-pub record Keeps (p : Playback) : Type 0 where
-  pub device : rules p.device ≡ true
-  pub room : p.len ≤ length p.reply
 
 -- ---- a record
 

@@ -2,8 +2,7 @@
 use Rattle.std.specs.Prelude.{Bool, true, false, Option, Some, None, Result, IsErr, ◌⊎◌, ◌≡◌, ℕ, length, take}
 use Rattle.std.specs.declared.io.Error.{Error}
 use mathlib.Core.List.{List, [], ◌∷◌, foldl}
-use Rattle.replay.specs.declared.play.Playback.{Playback}
-use Rattle.replay.specs.Play.{State, state_of, Keeps, yes_or_no}
+use Rattle.replay.specs.Play.{State, yes_or_no}
 use Rattle.replay.specs.Chunks.{IsChunk, entry_in, is_none, after_chunk, chunk_lines}
 
 -- the most chunks that the program reads
@@ -20,14 +19,13 @@ line_of None = []
 line_of (Some l) = yes_or_no l
 
 -- a turn on a chunk: the box after it, the line for it, and whether it is no record
-pub record Turned (s : State) (p : Playback) (t : Option (Option Bool)) (xs : List ℕ) : Type 0 where
-  pub keeps : Keeps p
-  pub state : state_of p ≡ after_chunk s xs
+pub record Turned (s p : State) (t : Option (Option Bool)) (xs : List ℕ) : Type 0 where
+  pub state : p ≡ after_chunk s xs
   pub line : line_of t ≡ chunk_lines s xs
   pub ended : has_ended t ≡ is_none (entry_in xs)
 
 -- a turn on a chunk that was read to the front of a space
-pub record Took (s : State) (p : Playback) (t : Option (Option Bool)) (space : List ℕ) : Type 0 where
+pub record Took (s p : State) (t : Option (Option Bool)) (space : List ℕ) : Type 0 where
   pub read : ℕ
   pub chunk : IsChunk (take read space)
   pub turned : Turned s p t (take read space)
@@ -51,7 +49,7 @@ pub record NoRecord (space : List ℕ) : Type 0 where
   pub none : is_none (entry_in (take read space)) ≡ true
 
 -- the program ends at the first chunk that is no record, when a line could not be written, or after all its chunks
-pub record Ended (s : State) (p : Playback) (r : Result Unit Error) (space : List ℕ) : Type 0 where
+pub record Ended (s p : State) (r : Result Unit Error) (space : List ℕ) : Type 0 where
   pub turns : ℕ
-  pub ran : Ran s (state_of p) turns
+  pub ran : Ran s p turns
   pub why : NoRecord space ⊎ (IsErr r ⊎ (turns ≡ max_chunks))

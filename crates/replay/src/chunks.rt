@@ -1,7 +1,7 @@
 // A log's octets from standard input, a record at a time. What a read gives is the operating system's part: no contract can say it, and it is
 // run and compared.
 ghost use Rattle.std.specs.Prelude.{◌≡◌, ◌≤◌, length, take};
-ghost use Rattle.replay.specs.Chunks.{body_left, max_record, IsChunk};
+ghost use Rattle.replay.specs.Chunks.{body_left, IsChunk};
 
 use capture::{ReadError, Record, read_record};
 use octets::read_le;
@@ -22,8 +22,7 @@ fn body_left(octets: &[u8]) -> usize
 
 // Reads the next record to the front of the space, and no octet of the one behind it. Returns how many octets came: fewer where the input ends
 // or a read fails, and only five where they are no good head.
-pub fn read_chunk(stdin: &mut Stdin, space: &mut [u8]) -> usize
-    requires { length space.old ≡ max_record }
+pub fn read_chunk(stdin: &mut Stdin, space: &mut [u8; Record::MAX_OCTETS]) -> usize
     ensures room { result ≤ length space.new }
     ensures chunk { IsChunk (take result space.new) }
 {

@@ -4,21 +4,35 @@ ghost use Rattle.octets.specs.Body.{Body};
 ghost use Rattle.octets.specs.Comparing.{is_same};
 ghost use Rattle.device.specs.Rules.{rules};
 ghost use Rattle.capture.specs.Records.{octet_of, entry};
-ghost use Rattle.replay.specs.Play.{state_of, Keeps, yes_or_no, silent, delivered, next, line_for};
+ghost use Rattle.replay.specs.Play.{yes_or_no, silent, delivered, next, line_for};
 
 use capture::Direction;
 use device::Device;
 use engine::answer;
 use octets::same_octets;
+use std::marker::Model;
 
 // The box, and its reply to the record just before.
-#[derive(Clone, Copy)]
+#[derive(Drop)]
 pub struct Playback {
-    pub device: Device,
+    device: Device,
     // The reply stands at the front, since there is no heap for one of just its size. It has no octets where that record is from the box, where
     // its body never reached the box, and before the first record.
-    pub reply: [u8; Device::MAX_REPLY],
-    pub len: usize,
+    reply: [u8; Device::MAX_REPLY],
+    len: usize,
+}
+
+// Clauses see the state that the fields stand for.
+impl Model for Playback {
+    ghost use Rattle.replay.specs.Play.{State};
+
+    ghost Value = { State };
+
+    ghost use Rattle.replay.specs.Playback.{state_of, Keeps};
+
+    ghost view = { state_of };
+
+    ghost invariant = { Keeps };
 }
 
 // The line for a record: yes or no, and none for one to the box.
@@ -28,8 +42,7 @@ impl Playback {
     // No reply to hold a record against.
     pub fn silent(device: Device) -> Playback
         requires { rules device ≡ true }
-        ensures keeps { Keeps result }
-        ensures state { state_of result ≡ silent device }
+        ensures { result ≡ silent device }
     {
         Playback {
             device,
@@ -43,8 +56,7 @@ impl Playback {
     fn delivered(device: Device, body: &[u8]) -> Playback
         requires rules { rules device ≡ true }
         requires body { Body body.now }
-        ensures keeps { Keeps result }
-        ensures state { state_of result ≡ delivered device body.now }
+        ensures { result ≡ delivered device body.now }
     {
         if body[0] / 64 != 2 {
             return Playback::silent(device);
@@ -60,8 +72,7 @@ impl Playback {
 
     // Whether a body from the box is the reply.
     fn is_reply(&self, body: &[u8]) -> bool
-        requires { Keeps self.now }
-        ensures { result ≡ is_same (state_of self.now).reply body.now }
+        ensures { result ≡ is_same self.now.reply body.now }
     {
         same_octets(&self.reply[..self.len], body)
     }
@@ -69,11 +80,9 @@ impl Playback {
     // One record.
     #[tactic(auto, unfolding(crate::specs::Play::next, crate::specs::Play::line_for))]
     pub fn play(&mut self, direction: Direction, body: &[u8]) -> Line
-        requires keeps { Keeps self.old }
-        requires body { Body body.now }
-        ensures keeps { Keeps self.new }
-        ensures state { state_of self.new ≡ next (state_of self.old) (entry (octet_of direction) body.now) }
-        ensures line { yes_or_no result ≡ line_for (state_of self.old) (entry (octet_of direction) body.now) }
+        requires { Body body.now }
+        ensures state { self.new ≡ next self.old (entry (octet_of direction) body.now) }
+        ensures line { yes_or_no result ≡ line_for self.old (entry (octet_of direction) body.now) }
     {
         match direction {
             Direction::ToBox => {

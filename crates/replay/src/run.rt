@@ -1,29 +1,27 @@
 // Records one after the other, and their lines.
-ghost use Rattle.std.specs.Prelude.{◌≡◌, length};
-ghost use Rattle.replay.specs.Play.{state_of, Keeps};
-ghost use Rattle.replay.specs.Chunks.{max_record};
 ghost use Rattle.replay.specs.Run.{Turned, Took, Ended};
 
 use crate::chunks::read_chunk;
 use crate::play::{Line, Playback};
-use capture::read_record;
+use capture::{Record, read_record};
 use std::io;
 use std::io::{Stdin, Stdout};
 
 // The record at the front of a chunk, played. None where there is none: the log ends there, or is at fault.
 fn play_chunk(playback: &mut Playback, chunk: &[u8]) -> Option<Line>
-    requires { Keeps playback.old }
-    ensures { Turned (state_of playback.old) playback.new result chunk.now }
+    ensures { Turned playback.old playback.new result chunk.now }
 {
     let record = read_record(chunk, 0).ok().flatten()?;
     Some(playback.play(record.direction, &chunk[record.start..record.next]))
 }
 
 // The next chunk of the log, played.
-fn play_next(playback: &mut Playback, stdin: &mut Stdin, space: &mut [u8]) -> Option<Line>
-    requires keeps { Keeps playback.old }
-    requires room { length space.old ≡ max_record }
-    ensures { Took (state_of playback.old) playback.new result space.new }
+fn play_next(
+    playback: &mut Playback,
+    stdin: &mut Stdin,
+    space: &mut [u8; Record::MAX_OCTETS],
+) -> Option<Line>
+    ensures { Took playback.old playback.new result space.new }
 {
     let read = read_chunk(stdin, space);
     play_chunk(playback, &space[..read])
@@ -43,11 +41,9 @@ pub fn run(
     playback: &mut Playback,
     mut stdin: Stdin,
     stdout: Stdout,
-    space: &mut [u8],
+    space: &mut [u8; Record::MAX_OCTETS],
 ) -> io::Result<()>
-    requires keeps { Keeps playback.old }
-    requires room { length space.old ≡ max_record }
-    ensures { Ended (state_of playback.old) playback.new result space.new }
+    ensures { Ended playback.old playback.new result space.new }
 {
     for _ in 0..u64::MAX {
         let Some(line) = play_next(playback, &mut stdin, space) else {

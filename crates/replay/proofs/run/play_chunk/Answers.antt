@@ -7,7 +7,7 @@ use lib.ListN.{take, drop}
 use Rattle.capture.specs.Records.{entry, Located, located, Good}
 use Rattle.capture.specs.Logs.{entry_of}
 use Rattle.capture.proofs.OneRecord.{Spelled, one_record}
-use Rattle.replay.specs.Play.{state_of, next, line_for, after_all, lines_from}
+use Rattle.replay.specs.Play.{next, line_for, after_all, lines_from}
 use Rattle.replay.specs.Chunks.{entry_in, after_chunk, chunk_lines}
 use Rattle.replay.proofs.LawsChunks.{there, none_there, one_there}
 use Rattle.std.specs.Option.{option_flatten}
@@ -24,9 +24,9 @@ found c =
     let is = one_there c.args.chunk.now c.read_record.result c.read_record.ensures (ap option_flatten (sym c.ok.ensures.value) ∙ sym c.flatten.ensures ∙ c.in_ok-record.was) in
     (one_record c.args.chunk.now 0 (λ k. (c.type_inv.chunk k).fits) is, there _ is)
 
-pub play-requires-clause-body : goal.play-requires-clause-body
-play-requires-clause-body c =
-    let s = (found (goal.at.play-requires-clause-body c).In_ok-record).0 in
+pub play-requires : goal.play-requires
+play-requires c =
+    let s = (found (goal.at.play-requires c).In_ok-record).0 in
     let g = subst Good (sym (body s)) s.good in
     (g.least, g.most)
 
@@ -36,9 +36,8 @@ returns c =
     let f = found (goal.at.returns c).In_ok-record in
     let played = c.play.ensures in
     record {
-      keeps = played.keeps;
       state = rw f.1 (played.state ∙ ap (next _) (body f.0));
-      line = rw f.1 (played.line ∙ ap (line_for (state_of c.args.playback.now)) (body f.0) ∙ sym (append-nil _));
+      line = rw f.1 (played.line ∙ ap (line_for c.args.playback.now) (body f.0) ∙ sym (append-nil _));
       ended = rw f.1;
     }
 
@@ -49,4 +48,4 @@ returns-in_err-record c =
     let missed = ap option_flatten (sym c.ok.ensures.value) ∙ sym c.flatten.ensures ∙ c.in_err-record.was in
     let none = none_there c.args.chunk.now c.read_record.result c.read_record.ensures missed in
     let ended = c.from_residual.ensures in
-    record { keeps = c.requires; state = rw none; line = rw (none, ended); ended = rw (none, ended) }
+    record { state = rw none; line = rw (none, ended); ended = rw (none, ended) }

@@ -1,0 +1,12 @@
+-- What the fields of a playback stand for, and what is always true of them.
+use Rattle.std.specs.Prelude.{true, ◌≡◌, ◌≤◌, length, take}
+use Rattle.device.specs.Rules.{rules}
+use Rattle.replay.specs.declared.play.Playback.TheInside.{Inside}
+use Rattle.replay.specs.Play.{State}
+
+abbrev pub state_of : Inside → State
+state_of p = record { device = p.device; reply = take p.len p.reply }
+
+pub record Keeps (p : Inside) : Type 0 where
+  pub device : rules p.device ≡ true
+  pub room : p.len ≤ length p.reply
