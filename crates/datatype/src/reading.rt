@@ -6,7 +6,7 @@ ghost use Rattle.datatype.specs.declared.reading.Refusal.TheVariants as refusal;
 ghost use Rattle.datatype.specs.Answer.{reported, report_of, filled, answer_to};
 ghost use Rattle.datatype.specs.Calls.{Room, ReadsPart, ReadsItem};
 
-use crate::leaf::{Misfit, counted_at, rest_of, span_of};
+use crate::leaf::{Misfit, Part};
 use crate::list::Read;
 use packed::Fault;
 use typestring::{ItemKind, TypeString, ends_part, is_type, item_end, kind_of};
@@ -122,14 +122,18 @@ fn read_item(
     ensures { ReadsItem (drop at types.now) depth part.now start.next list.old list.new start.leaves result }
 {
     let letter = types[at];
+    let here = Part {
+        octets: part,
+        from: start.next,
+    };
     match kind_of(letter).unwrap() {
         ItemKind::Value(value) => {
-            let span = span_of(value, part, start.next)?;
+            let span = here.span_of(value)?;
             Ok(start.with_leaf(list, letter, span))
         }
-        ItemKind::Rest => Ok(start.with_leaf(list, letter, rest_of(part, start.next))),
+        ItemKind::Rest => Ok(start.with_leaf(list, letter, here.rest())),
         ItemKind::Struct => {
-            let contents = counted_at(part, start.next)?;
+            let contents = here.counted()?;
             let inside = Read {
                 next: contents.start,
                 ..start

@@ -42,7 +42,7 @@ read_item-returns-in_ok-span-in-Value t c =
 pub read_item-returns-in-Rest : goal.read_item-returns-in-Rest
 read_item-returns-in-Rest t c =
     let a = c.args in
-    reads_rest a.types.now a.at _ _ _ _ _ _ _ (sym c.kind_of.ensures ∙ c.in-Rest.ensures) (rw c.rest_of.ensures at c.with_leaf-in-Rest.ensures)
+    reads_rest a.types.now a.at _ _ _ _ _ _ _ (sym c.kind_of.ensures ∙ c.in-Rest.ensures) (rw c.rest.ensures at c.with_leaf-in-Rest.ensures)
 
 -- ---- t and its contents
 
@@ -52,7 +52,7 @@ read_item-overflow_sub-depth t c =
 
 pub read_item-slice_bounds-inner-end : goal.read_item-slice_bounds-inner-end
 read_item-slice_bounds-inner-end t c =
-    let w = counted_fits c.args.part.now c.args.start.next _ _ _ c.requires.1.within (sym c.counted_at.ensures ∙ c.in_ok-contents-in-Struct.was) in
+    let w = counted_fits c.args.part.now c.args.start.next _ _ _ c.requires.1.within (sym c.counted.ensures ∙ c.in_ok-contents-in-Struct.was) in
     sym (length-take-le c.in_ok-contents-in-Struct.contents.next c.args.part.now w.2)
 
 pub read_item-read_sequence-requires : goal.read_item-read_sequence-requires
@@ -60,7 +60,7 @@ read_item-read_sequence-requires t c =
     let a = c.args in
     let w = struct_at a.types.now a.at a.depth c.requires.0 (sym c.kind_of.ensures ∙ c.in-Struct.ensures) in
     let s = c.in_ok-contents-in-Struct.contents in
-    (omega (arith, w.0, w.1), (w.2, struct_room _ _ _ _ _ s.start s.size s.next c.requires.1 w.1 (sym c.counted_at.ensures ∙ c.in_ok-contents-in-Struct.was)))
+    (omega (arith, w.0, w.1), (w.2, struct_room _ _ _ _ _ s.start s.size s.next c.requires.1 w.1 (sym c.counted.ensures ∙ c.in_ok-contents-in-Struct.was)))
 
 pub read_item-returns-in_err-contents-in-Struct : goal.read_item-returns-in_err-contents-in-Struct
 read_item-returns-in_err-contents-in-Struct t c =
@@ -68,7 +68,7 @@ read_item-returns-in_err-contents-in-Struct t c =
     let m = c.in_err-contents-in-Struct.field-0.0 in
     let gives : c.from_residual-in_err-contents-in-Struct.result ≡ Err m = search rules in
     rw gives
-    (struct_misfit a.types.now a.at _ _ _ _ _ _ (sym c.kind_of.ensures ∙ c.in-Struct.ensures) m.cause (sym c.counted_at.ensures ∙ c.in_err-contents-in-Struct.was))
+    (struct_misfit a.types.now a.at _ _ _ _ _ _ (sym c.kind_of.ensures ∙ c.in-Struct.ensures) m.cause (sym c.counted.ensures ∙ c.in_err-contents-in-Struct.was))
 
 pub read_item-returns-in_err-reached-in-Struct : goal.read_item-returns-in_err-reached-in-Struct
 read_item-returns-in_err-reached-in-Struct t c =
@@ -77,7 +77,7 @@ read_item-returns-in_err-reached-in-Struct t c =
     let gives : c.from_residual-in_err-reached-in-Struct.result ≡ Err c.in_err-reached-in-Struct.field-0.0 = search rules in
     rw gives
     (struct_reads a.types.now a.at _ _ _ _ _ _ (sym c.kind_of.ensures ∙ c.in-Struct.ensures) s.start s.size s.next _
-    (sym c.counted_at.ensures ∙ c.in_ok-contents-in-Struct.was) (rw c.in_err-reached-in-Struct.was at c.read_sequence.ensures))
+    (sym c.counted.ensures ∙ c.in_ok-contents-in-Struct.was) (rw c.in_err-reached-in-Struct.was at c.read_sequence.ensures))
 
 pub read_item-returns-in_ok-reached-in-Struct : goal.read_item-returns-in_ok-reached-in-Struct
 read_item-returns-in_ok-reached-in-Struct t c =
@@ -85,7 +85,7 @@ read_item-returns-in_ok-reached-in-Struct t c =
     let s = c.in_ok-contents-in-Struct.contents in
     rw c.filling.ensures
     (struct_reads a.types.now a.at _ _ _ _ _ _ (sym c.kind_of.ensures ∙ c.in-Struct.ensures) s.start s.size s.next _
-    (sym c.counted_at.ensures ∙ c.in_ok-contents-in-Struct.was) (rw c.in_ok-reached-in-Struct.was at c.read_sequence.ensures))
+    (sym c.counted.ensures ∙ c.in_ok-contents-in-Struct.was) (rw c.in_ok-reached-in-Struct.was at c.read_sequence.ensures))
 
 -- ---- A and its elements
 
