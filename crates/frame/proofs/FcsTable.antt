@@ -1,6 +1,6 @@
 -- PROMISE: one lookup is RFC 1662's eight bit steps. Whether a step brings the polynomial in is settled by the low octet alone, so the
 -- high one moves down and meets what the low one leaves, which stands in the table.
-use mathlib.Core.Path.{◌≡◌, sym, ap, ◌∙◌}
+use mathlib.Core.Path.{◌≡◌, refl, sym, ap, ◌∙◌}
 use Prim.Native.Nat.{ℕ, zero, suc, ◌+◌, ◌*◌, ◌/◌, ◌%◌, ◌^◌, ◌<◌}
 use native.Mathlib.Omega.{arith}
 use native.Mathlib.Nat.{add-zero, zero-add, mul-one}
@@ -9,6 +9,7 @@ use lib.Dec.{eqb}
 use lib.ListN.{get_or}
 use lib.Pow.{split}
 use Rattle.octets.proofs.LawsTests.{by_test}
+use Rattle.frame.specs.declared.fcs_table.TheConstants.{FCS_TABLE}
 use Rattle.frame.specs.Fcs.{fcs_bit, fcs_bits, fcs_octet, fcs_entries, fcs_table}
 use Rattle.frame.proofs.LawsXor.{xor_assoc}
 
@@ -44,3 +45,13 @@ pub one_lookup : (register octet : ℕ) → let x = bit_xor register octet in
 unfolding fcs_octet
 one_lookup register octet =
     let x = bit_xor register octet in ap (bit_xor (x / 256)) (table_at (x % 256) (omega arith)) ∙ sym (eight_bits x)
+
+-- the code's table is that one: all of its 256 entries are computed
+pub the_entries : FCS_TABLE ≡ fcs_table
+unfolding fcs_table fcs_entries fcs_bits fcs_bit
+the_entries = refl
+
+pub looked_up : (register octet : ℕ) → let x = bit_xor register octet in
+    bit_xor (x / 256) (get_or FCS_TABLE (x % 256) 0) ≡ fcs_octet register octet
+looked_up register octet =
+    let x = bit_xor register octet in ap (λ table. bit_xor (x / 256) (get_or table (x % 256) 0)) the_entries ∙ one_lookup register octet

@@ -1,17 +1,16 @@
 // The 16-bit frame check sequence of RFC 1662, an octet at a time by a table.
 ghost use Rattle.std.specs.Prelude.{◌≡◌};
-ghost use Rattle.frame.specs.Fcs.{fcs_table, fcs_octet, fcs};
+ghost use Rattle.frame.specs.Fcs.{fcs_octet, fcs};
 
 use crate::fcs_table::FCS_TABLE;
 
 // The register after one octet, which joins the low end: then the high octet moves down and meets the table's entry of the low one.
-#[tactic(auto, using(crate::proofs::FcsTable::one_lookup))]
-fn fcs_octet(register: u16, octet: u8, table: &[u16; 256]) -> u16
-    requires { table.now ≡ fcs_table }
+#[tactic(auto, using(crate::proofs::FcsTable::looked_up))]
+fn fcs_octet(register: u16, octet: u8) -> u16
     ensures { result ≡ fcs_octet register octet }
 {
     let x = register ^ u16::from(octet);
-    (x / 256) ^ table[usize::from(x % 256)]
+    (x / 256) ^ FCS_TABLE[usize::from(x % 256)]
 }
 
 // The check that is sent after the octets of a body.
@@ -19,11 +18,9 @@ fn fcs_octet(register: u16, octet: u8, table: &[u16; 256]) -> u16
 pub fn fcs16(body: &[u8]) -> u16
     ensures { result ≡ fcs body.now }
 {
-    // A constant array is copied wherever it is named, so it is named once and lent.
-    let table = FCS_TABLE;
     let mut r: u16 = 0xffff;
     for octet in body {
-        r = fcs_octet(r, *octet, &table);
+        r = fcs_octet(r, *octet);
     }
     r ^ 0xffff
 }

@@ -6,7 +6,7 @@ ghost use Rattle.frame.specs.Frame.{sent, stuffed, frame, written, writing};
 
 use crate::fcs::fcs16;
 use crate::kind::OctetKind;
-use octets::{write_le, write_octet};
+use octets::write_octet;
 
 // One octet, escaped where it must be.
 #[tactic(auto, using(octets::proofs::LawsWriting::wrote_both), unfolding(crate::specs::Frame::sent, crate::specs::Kind::kind_of))]
@@ -39,8 +39,7 @@ pub fn write_frame(body: &[u8], out: &mut [u8]) -> usize
     requires { Body body.now × (length (frame body.now) ≤ length out.old) }
     ensures { written result out.new ≡ writing body.now out.old }
 {
-    let mut check = [0u8; 2];
-    write_le(&mut check, 0, u32::from(fcs16(body)), 2);
+    let check = fcs16(body).to_le_bytes();
     let at_body = write_octet(out, 0, 0x7e);
     let at_check = write_stuffed(out, at_body, body);
     let at_flag = write_stuffed(out, at_check, &check);

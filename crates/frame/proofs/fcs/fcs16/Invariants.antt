@@ -1,5 +1,4 @@
--- The invariant: the register after what is left is the register after the whole. The constant is the table: all of its 256 entries are
--- computed, once, where it is lent.
+-- The invariant: the register after what is left is the register after the whole.
 use mathlib.Core.Path.{◌≡◌}
 use lib.ListN.{drop}
 use Rattle.frame.specs.Fcs.{fcs_from}
