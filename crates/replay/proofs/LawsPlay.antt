@@ -1,12 +1,12 @@
 -- Laws of one record: what an answered body leaves.
 use mathlib.Core.Bool.{true}
-use mathlib.Core.Path.{◌≡◌, ap}
+use mathlib.Core.Path.{◌≡◌}
 use mathlib.Core.List.{List}
 use Prim.Native.Nat.{ℕ, ◌/◌, ◌≤◌}
 use native.Mathlib.Omega.{arith}
 use borrow.Author.Tests.{eq-eqb}
 use lib.ListN.{length, take}
-use lib.Seq.{length-sets, take-append_seam}
+use lib.Seq.{take-append_seam}
 use Rattle.octets.specs.Body.{header_of}
 use Rattle.octets.specs.Writing.{Wrote}
 use Rattle.octets.proofs.LawsWriting.{front_count, front_held}
@@ -21,7 +21,7 @@ use Rattle.replay.specs.Play.{delivered}
 use Rattle.replay.specs.Playback.{state_of, Keeps}
 
 module _ (d : Device) (b : List ℕ) {space : List ℕ} {p : Inside} (kept : rules d ≡ true) (room : max_reply ≤ length space)
-    (device : p.device ≡ (engine d b).device) (w : Wrote space p.reply 0 p.len (engine d b).reply) where
+    (device : p.device ≡ (engine d b).device) (w : Wrote space p.reply.octets 0 p.reply.len (engine d b).reply) where
   fits : length (engine d b).reply ≤ length space
   fits = omega (arith, reply_bounds d b kept)
 
@@ -29,10 +29,10 @@ module _ (d : Device) (b : List ℕ) {space : List ℕ} {p : Inside} (kept : rul
   delivered_keeps =
       record {
         device = rw device (body_keeps d b kept);
-        room = omega (arith, fits, front_count fits w, ap length w.held, length-sets space 0 (engine d b).reply);
+        room = omega (arith, reply_bounds d b kept, front_count fits w);
       }
 
-  reply : take p.len p.reply ≡ (engine d b).reply
+  reply : take p.reply.len p.reply.octets ≡ (engine d b).reply
   reply = rw (front_count fits w, front_held fits w) (take-append_seam (engine d b).reply _)
 
   pub delivered_state : header_of b / 64 ≡ 2 → state_of p ≡ delivered d b

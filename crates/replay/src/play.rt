@@ -7,7 +7,7 @@ ghost use Rattle.capture.specs.Records.{octet_of, entry};
 ghost use Rattle.replay.specs.Play.{yes_or_no, silent, delivered, next, line_for};
 
 use capture::Direction;
-use device::Device;
+use device::{Device, Padded};
 use engine::answer;
 use octets::same_octets;
 use std::marker::Model;
@@ -16,10 +16,8 @@ use std::marker::Model;
 #[derive(Drop)]
 pub struct Playback {
     device: Device,
-    // The reply stands at the front, since there is no heap for one of just its size. It has no octets where that record is from the box, where
-    // its body never reached the box, and before the first record.
-    reply: [u8; Device::MAX_REPLY],
-    len: usize,
+    // It has no octets where that record is from the box, where its body never reached the box, and before the first record.
+    reply: Padded<{ Device::MAX_REPLY }>,
 }
 
 // Clauses see the state that the fields stand for.
@@ -46,8 +44,10 @@ impl Playback {
     {
         Playback {
             device,
-            reply: [0u8; Device::MAX_REPLY],
-            len: 0,
+            reply: Padded {
+                octets: [0u8; Device::MAX_REPLY],
+                len: 0,
+            },
         }
     }
 
@@ -61,12 +61,14 @@ impl Playback {
         if body[0] / 64 != 2 {
             return Playback::silent(device);
         }
-        let mut reply = [0u8; Device::MAX_REPLY];
-        let answered = answer(device, body, &mut reply);
+        let mut octets = [0u8; Device::MAX_REPLY];
+        let answered = answer(device, body, &mut octets);
         Playback {
             device: answered.device,
-            reply,
-            len: answered.len,
+            reply: Padded {
+                octets,
+                len: answered.len,
+            },
         }
     }
 
@@ -74,7 +76,7 @@ impl Playback {
     fn is_reply(&self, body: &[u8]) -> bool
         ensures { result ≡ is_same self.now.reply body.now }
     {
-        same_octets(&self.reply[..self.len], body)
+        same_octets(self.reply.octets(), body)
     }
 
     // One record.
