@@ -22,6 +22,7 @@ fn body_left(octets: &[u8]) -> usize
 
 // Reads the next record to the front of the space, and no octet of the one behind it. Returns how many octets came: fewer where the input ends
 // or a read fails, and only five where they are no good head.
+#[tactic(auto, using(crate::proofs::LawsChunks::left_most, crate::proofs::LawsChunks::read_is_chunk))]
 pub fn read_chunk(stdin: &mut Stdin, space: &mut [u8; Record::MAX_OCTETS]) -> usize
     ensures room { result ≤ length space.new }
     ensures chunk { IsChunk (take result space.new) }

@@ -16,7 +16,8 @@ use std::marker::Model;
 #[derive(Drop)]
 pub struct Playback {
     device: Device,
-    // It has no octets where that record is from the box, where its body never reached the box, and before the first record.
+    // There is no heap for one of just its size. It has no octets where that record is from the box, where its body never reached the box, and
+    // before the first record.
     reply: Padded<{ Device::MAX_REPLY }>,
 }
 
@@ -52,7 +53,7 @@ impl Playback {
     }
 
     // A body that came to the box. One that is no Spinel body has no reply and changes nothing.
-    #[tactic(auto, unfolding(crate::specs::Play::delivered))]
+    #[tactic(auto, unfolding(crate::specs::Play::delivered), using(engine::proofs::RulesKept::body_keeps, engine::proofs::ReplyBounds::reply_bounds, octets::proofs::LawsWriting::front_count))]
     fn delivered(device: Device, body: &[u8]) -> Playback
         requires rules { rules device ≡ true }
         requires body { Body body.now }

@@ -1,14 +1,14 @@
 -- A body that reaches the box is the engine's.
 use native.Mathlib.Omega.{arith}
-use Rattle.replay.proofs.LawsPlay.{delivered_keeps, delivered_state}
+use borrow.Author.Tests.{eq-eqb}
+use Rattle.engine.proofs.ReplyBounds.{reply_bounds}
+use Rattle.replay.specs.Play.{delivered}
+use Rattle.replay.proofs.LawsPlay.{front_taken}
 use Rattle.replay.proofs.play.Playback.delivered.Goals as goal
 
-pub invariant_of-result : goal.invariant_of-result
-invariant_of-result c =
-    let answered = c.answer-answered.ensures in
-    delivered_keeps _ _ c.requires.rules (omega arith) answered.device answered.reply
-
 pub returns : goal.returns
+unfolding delivered
 returns c =
     let answered = c.answer-answered.ensures in
-    delivered_state _ _ c.requires.rules (omega arith) answered.device answered.reply c.if-body-ne2.false
+    let reply = front_taken (omega (arith, reply_bounds c.args.device c.args.body.now c.requires.rules)) answered.reply in
+    rw (eq-eqb _ 2 c.if-body-ne2.false) (λ i. record { device = answered.device i; reply = reply i })
