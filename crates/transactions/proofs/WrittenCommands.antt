@@ -1,7 +1,7 @@
 -- PROMISE: what the host writes is what it means. A command's frame is written exactly where link, number and command are good, the body has
--- at most 1,300 octets and the frame fits; else nothing is, and 0 is returned. A body that `write_command` frames has its link and its
--- number in the header, its command behind it and then the payload; it is never a reset, so that it is one that a host of a run may send;
--- and the reader of its frame gets this body and no other. A reset is 7E 80 01 02 92 7E.
+-- at most 1,300 octets and the frame fits; else nothing is, and the count is 0, the code's None. A body that `write_command` frames has its
+-- link and its number in the header, its command behind it and then the payload; it is never a reset, so that it is one that a host of a run
+-- may send; and the reader of its frame gets this body and no other. A reset is 7E 80 01 02 92 7E.
 use mathlib.Core.Logic.{◌≢◌}
 use mathlib.Core.Path.{◌≡◌, refl, sym, ap, ◌∙◌}
 use mathlib.Core.Bool.{true, false}

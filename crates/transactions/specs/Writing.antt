@@ -1,5 +1,5 @@
 -- What the host sends, and its frames (02, T-06).
-use Rattle.std.specs.Prelude.{Bool, cond, not, ◌&&◌, List, [], ◌∷◌, ◌++◌, ◌≢◌, ℕ, ◌+◌, ◌*◌, ◌≤◌, eqb, ltb, leb, length}
+use Rattle.std.specs.Prelude.{Bool, cond, not, ◌&&◌, Option, Some, None, List, [], ◌∷◌, ◌++◌, ◌≢◌, ℕ, ◌+◌, ◌*◌, ◌≤◌, eqb, ltb, leb, length}
 use Rattle.octets.specs.Body.{max_body}
 use Rattle.packed.specs.Packed.{packed, max_packed}
 use Rattle.frame.specs.Frame.{frame, Written, written, writing}
@@ -40,6 +40,11 @@ is_sendable link number command =
 
 abbrev pub nothing : List ℕ → Written
 nothing out = written 0 out
+
+-- the code's answer as a count; 0 is no length of a frame
+abbrev pub count_of : Option ℕ → ℕ
+count_of (Some n) = n
+count_of None = 0
 
 -- where a frame fits, it stands at the front of the output; where not, the output is left as it was
 unfoldable pub writing_fitting : List ℕ → List ℕ → Written

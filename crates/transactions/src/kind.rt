@@ -1,7 +1,7 @@
 // What a body that comes from the box is to the table.
 ghost use Rattle.std.specs.Prelude.{◌≡◌};
 
-use octets::{Body, same_octets};
+use octets::Body;
 
 // Three cases and no Option: 02 has a rule for each, also for what is no Spinel body.
 #[derive(Clone, Copy, PartialEq, Eq)]
@@ -17,11 +17,11 @@ pub enum BodyKind {
 impl BodyKind {
     ghost use Rattle.transactions.specs.Kind.{kind};
 
-    #[tactic(auto, unfolding(crate::specs::Kind::kind))]
+    #[tactic(auto, using(octets::proofs::LawsComparing::same_is), unfolding(crate::specs::Kind::kind))]
     pub fn of(body: &[u8]) -> BodyKind
         ensures { result ≡ kind body.now }
     {
-        if same_octets(body, &[0x80, 0x06, 0x00, 0x72]) {
+        if body == [0x80, 0x06, 0x00, 0x72].as_slice() {
             return BodyKind::Announcement;
         }
         if body.len() < Body::MIN_OCTETS || Body::MAX_OCTETS < body.len() || body[0] / 64 != 2 {

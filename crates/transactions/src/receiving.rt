@@ -10,13 +10,15 @@ use hdlc::{Fate, Reader, read_frame};
 // What a call tells that is not refused, with 01's numbers.
 #[derive(Clone, Copy, PartialEq, Eq)]
 pub enum Heard {
-    // 0 and 2 to 6: no checked frame. The table is told nothing.
+    // 0 and 2 to 6: no checked frame. The table is told nothing. `receive` never makes it of fate 1: that is `Body`, and an enum of the other six
+    // would be `Fate` once more.
     Read(Fate),
     // 1: a checked frame. Its body has so many octets, from the front of the assembly buffer, and the table answered this to it.
     Body(usize, Result<Answer, Refusal>),
 }
 
-// Why a call is refused, with 01's number of each reason.
+// Why a call is refused, with 01's number of each reason. Serial's receiving call tests for 11 and 12 in the same frame, but it is no one function
+// with this: the two crates know nothing of each other, and each tells its own refusals.
 #[derive(Clone, Copy, PartialEq, Eq)]
 pub enum ReceiveRefusal {
     // The table or the reader breaks its own rules.

@@ -53,11 +53,7 @@ impl Table {
     {
         let free = !(self.waiting | self.given_up | 1);
         let number = free.trailing_zeros() as u8;
-        if number <= Table::MAX_NUMBER {
-            Some(number)
-        } else {
-            None
-        }
+        (number <= Table::MAX_NUMBER).then_some(number)
     }
 
     fn refused(self, why: Refusal) -> Step
