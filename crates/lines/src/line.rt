@@ -5,7 +5,7 @@ ghost use Rattle.lines.specs.Line.{shown, line_of};
 
 use octets::write_octets;
 
-const DIGITS: [u8; 16] = *b"0123456789abcdef";
+static DIGITS: [u8; 16] = *b"0123456789abcdef";
 
 // An octet's digits, and what stands behind it where so many octets are left.
 fn shown(octet: u8, left: usize) -> [u8; 3]

@@ -45,7 +45,7 @@ const TWO_OCTETS: Number = Number {
     ..OCTET
 };
 
-const NUMBERS: [Number; slot::COUNT] = [
+static NUMBERS: [Number; slot::COUNT] = [
     // PHY enabled.
     BOOL,
     // Channel.

@@ -78,7 +78,7 @@ const SETTABLE: Row = Row {
     ..READ_ONLY
 };
 
-const ROWS: [Row; Row::COUNT] = [
+static ROWS: [Row; Row::COUNT] = [
     Row {
         id: 0,
         kind: Kind::ReadOnly(ReadOnly::LastStatus),
