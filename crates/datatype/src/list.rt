@@ -1,4 +1,4 @@
-// The lent list of leaves, three numbers a leaf: letter, start, length.
+// The lent list of leaves, three numbers a leaf: letter, start, length. It is a list of numbers, whole leaves or not: 01 lends it so.
 ghost use Rattle.std.specs.Prelude.{◌≡◌, ◌+◌, ◌≤◌, set, Ok};
 ghost use Rattle.typestring.specs.Grammar.{max_octets};
 ghost use Rattle.datatype.specs.Answer.{max_payload};

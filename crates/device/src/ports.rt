@@ -1,4 +1,5 @@
-// Assisting ports, as octets: each a little-endian number of two.
+// Assisting ports, as octets: each a little-endian number of two. The loops take two octets off the front, as the definitions do;
+// `chunks_exact` was tried, and its clause does not join to them.
 ghost use Rattle.std.specs.Prelude.{◌≡◌};
 ghost use Rattle.device.specs.Ports.{ports_in, distinct, port_place};
 

@@ -43,6 +43,7 @@ pub fn stack_keeps(numbers: [u32; slot::COUNT]) -> bool
 }
 
 impl Link {
+    // A `for`: `all` was tried, and the check does not join its facts by place to a definition that goes from place to place.
     #[tactic(auto, using(octets::proofs::LawsScanning::scan_on, octets::proofs::LawsScanning::scan_stop, octets::proofs::LawsScanning::scan_end), unfolding(crate::specs::Rules::in_range, octets::specs::Scanning::all_below))]
     fn numbers_keep(&self) -> bool
         ensures { result ≡ in_range self.now.numbers }
@@ -100,6 +101,7 @@ impl Settings {
 }
 
 impl Device {
+    // A `for`, as in `numbers_keep`.
     #[tactic(auto, using(octets::proofs::LawsScanning::scan_on, octets::proofs::LawsScanning::scan_stop, octets::proofs::LawsScanning::scan_end), unfolding(octets::specs::Scanning::all_below))]
     fn links_keep(&self) -> bool
         ensures { result ≡ all_below max_links (λ k. link_kept self.now.settings.links (get_or self.now.links k no_link) k) }

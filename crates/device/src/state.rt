@@ -6,7 +6,7 @@ ghost use Rattle.device.specs.State.{padded_from, octets_of, defaults, fresh_lin
 use octets::write_octets;
 use property::{Status, number_at, power_state, slot};
 
-// Octets at the front of an array, and how many they are.
+// Octets at the front of an array, and how many they are: there is no heap.
 #[derive(Clone, Copy, PartialEq, Eq)]
 pub struct Padded<const N: usize> {
     pub octets: [u8; N],

@@ -5,7 +5,7 @@ ghost use Rattle.device.specs.View.{power_after, after, view_of};
 
 use crate::state::{Device, Link, Settings, default_power};
 
-// One link and the values that all links share; no other link.
+// One link and the values that all links share; no other link. That they keep their rules is no ghost field: `of` is promised for any box.
 #[derive(Clone, Copy, PartialEq, Eq)]
 pub struct View {
     pub settings: Settings,

@@ -9,7 +9,8 @@ use packed::Fault;
 use property::Status;
 use request::{Refusal, Request, verdict_of};
 
-// What becomes of a body, with the number, or the step and the status, that the papers have for it.
+// What becomes of a body, with the number, or the step and the status, that the papers have for it, and 0 where they have none (`reported`).
+// One flat enum: each case is an answer of its own, and a body that is stopped is no error of the call.
 #[derive(Clone, Copy, PartialEq, Eq)]
 pub enum Class {
     // 14: the number of links is not 1 to 4.

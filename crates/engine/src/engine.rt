@@ -36,6 +36,7 @@ fn affected(device: Device, k: usize, decided: Decided) -> Device
     }
 }
 
+// The space is a slice and no array of 61: it may be longer, and the promise asks for no more than room (docs/PROMISES.md).
 #[tactic(auto, using(device::proofs::StateRules::settings_of, device::proofs::StateRules::link_at), unfolding(crate::specs::Engine::engine, crate::specs::Engine::settled, crate::specs::Engine::is_set_up, crate::specs::Engine::link_of))]
 pub fn answer(device: Device, body: &[u8], out: &mut [u8]) -> Answered
     requires rules { rules device ≡ true }

@@ -37,7 +37,7 @@ pub enum HexLine {
     More(usize),
 }
 
-// The value of a digit in lower or upper case.
+// The value of a digit in lower or upper case. A match: `to_digit` would go through a `char` and a `u32` and back.
 fn digit_of(letter: u8) -> Option<u8>
     ensures { result ≡ digit_of letter }
 {

@@ -10,6 +10,7 @@ pub fn common_front(a: &[u8], b: &[u8]) -> usize
 }
 
 #[tactic(auto, using(crate::proofs::LawsComparing::same_is))]
+// The slices' own `==`, for callers whose contracts speak of `is_same`.
 pub fn same_octets(a: &[u8], b: &[u8]) -> bool
     ensures { result ≡ is_same a.now b.now }
 {

@@ -36,6 +36,7 @@ pub enum Scope {
     Link,
 }
 
+// The rule that `find` promises is no ghost field: `allows` takes any row, and a definition has one that breaks it (`no_row`).
 #[derive(Clone, Copy, PartialEq, Eq)]
 pub struct Row {
     pub id: u32,

@@ -1,4 +1,5 @@
-// Where a link holds each of its nine numbers: a place in an array, as `number_at` takes it (its `requires`), and no enum.
+// Where a link holds each of its nine numbers. A slot is a place in an array and no enum: `number_at` is promised for every place below nine
+// (docs/PROMISES.md), and an enum would ask more of its callers.
 pub const COUNT: usize = 9;
 
 pub const PHY_ENABLED: usize = 0;

@@ -78,19 +78,23 @@ fn reply(stdout: Stdout, device: Device, text: &[u8]) -> Device {
     let _ = print!(stdout; " ");
     show::text(stdout, text);
     let body = octets(text, &mut space).unwrap_or(b"");
-    let answered = ask(device, body, &mut out);
     let _ = print!(stdout; " =");
-    match out.get(..answered.len) {
-        Some(reply) if !reply.is_empty() => show::octets(stdout, reply),
-        _ => show::text(stdout, b" none"),
+    match ask(device, body, &mut out) {
+        Some(answered) => {
+            show::octets(stdout, out.get(..answered.len).unwrap_or(b""));
+            answered.device
+        }
+        None => {
+            let _ = print!(stdout; " none");
+            device
+        }
     }
-    answered.device
 }
 
-// The engine's answer, where box and body are such as it takes; else no reply, and the box as it was.
-fn ask(device: Device, body: &[u8], out: &mut [u8; Device::MAX_REPLY]) -> Answered {
+// The engine's answer, where box and body are such as it takes.
+fn ask(device: Device, body: &[u8], out: &mut [u8; Device::MAX_REPLY]) -> Option<Answered> {
     if is_body(body) && body[0] / 64 == 2 && device.keeps_rules() {
-        return answer(device, body, out);
+        return Some(answer(device, body, out));
     }
-    Answered { device, len: 0 }
+    None
 }
