@@ -78,7 +78,7 @@ from_power b t =
 
 quiet_decision : (v : View) (h : ℕ) (c : Command) (r : Row) (p : List ℕ) (o : Outcome) → Still o
     → (decision_of v h (concluded v h c r p o)).effect ≡ None
-unfolding decision_of concluded status_decision Still
+unfolding decision_of concluded status_decision
 quiet_decision v h c r p (Err s) q = refl
 quiet_decision v h c r p (Ok d) q = q
 
@@ -148,7 +148,7 @@ a_reset b t = rw t
 set_power_lem : (v : View) (b : List ℕ) (r : Row) (start : ℕ)
     → verdict_of b ≡ Ok (request.Reach Set r start) → r.kind ≡ Power → is_power b ≡ false
     → Still (perform v.link Set r.kind (drop start b))
-unfolding Still perform set_kind set_power
+unfolding perform set_kind set_power
 set_power_lem v b r start e k n = rw k (by (value_in power_state (drop start b)) refl)
   where
     by : (x : Result ℕ Status) → value_in power_state (drop start b) ≡ x → Still (power_to v.link x)
@@ -183,7 +183,7 @@ at_power v b c r start h x e o few =
 
 effect_reach : (v : View) (b : List ℕ) (c : Command) (r : Row) (start : ℕ) → verdict_of b ≡ Ok (request.Reach c r start)
     → (decision_of v (header_of b) (reached v (header_of b) c r (drop start b))).effect ≡ effect_of b
-unfolding reached Still effect_of
+unfolding reached effect_of
 effect_reach v b c r start e =
     let n = no_reset b (Ok (request.Reach c r start)) e (λ q. impossible cc) in
     by_test (is_power b)

@@ -72,9 +72,7 @@ port_none v xs h = rw (ports_none xs h)
 -- a port is found if it is there
 pub place_held : (v : ℕ) (xs : List ℕ) → is_some (port_place v xs) ≡ holds v (ports_in xs)
 unfolding port_place
-place_held v xs =
-    let place = 2 * before v (ports_in xs) in
-    by_test (holds v (ports_in xs)) (λ t. rw t) (λ t. rw t)
+place_held v xs = by_test (holds v (ports_in xs)) (λ t. rw t) (λ t. rw t)
 
 -- the place that is found
 pub place_told : (v : ℕ) (xs : List ℕ) (at : ℕ) → port_place v xs ≡ Some at → (holds v (ports_in xs) ≡ true) × (at ≡ 2 * before v (ports_in xs))
