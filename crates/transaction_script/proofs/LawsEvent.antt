@@ -1,22 +1,24 @@
 -- Laws of the words of a line: a text that is longer than every event but a body is the same event as its front.
-use mathlib.Core.Bool.{false, cond}
-use mathlib.Core.Path.{◌≡◌, refl, sym, ap, ◌∙◌}
+use mathlib.Core.Bool.{Bool, true, false, cond, ◌&&◌, and-false}
+use mathlib.Core.Path.{◌≡◌, refl, sym, ap, ap₂, ◌∙◌}
 use mathlib.Core.List.{List, [], ◌∷◌, foldl}
 use Prim.Native.Nat.{ℕ, zero, suc, ◌+◌, ◌-◌, ◌*◌, ◌≤◌, ◌<◌}
 use native.Mathlib.Omega.{arith}
 use borrow.Author.Tests.{eq-eqb, ne_eqb, eqb-true, lt-ltb, ltb-false, eqb-false, leb-true, leb-false}
-use lib.Dec.{eqb, ltb, leb, eqb-zero-suc, eqb-suc-suc}
+use lib.Dec.{eqb, ltb, leb, eqb-zero-suc, eqb-suc-zero, eqb-suc-suc}
 use lib.ListN.{length, get_or, take, drop, length-take, length-drop}
 use lib.Seq.{take_all}
 use Rattle.std.specs.Prelude.{Option, Some, None, ◌≢◌}
+use Rattle.std.specs.Option.{option_or}
 use Rattle.std.specs.Cmp.Lexicographic.{pointwise}
 use Rattle.octets.specs.Comparing.{common_front, is_same}
 use Rattle.octets.specs.Ranges.{is_between}
 use Rattle.octets.proofs.LawsRanges.{inside_told}
+use Rattle.octets.proofs.LawsComparing.{same_is}
 use Rattle.octets.proofs.LawsTests.{by_test, chosen}
 use Rattle.transaction_script.specs.declared.event.Event.{Event}
 use Rattle.transaction_script.specs.declared.event.Event.TheVariants.{Open, Reset, Fresh}
-use Rattle.transaction_script.specs.Event.{open_word, reset_word, fresh_word, give_up_words, table_word, steady_word, resetting_word, starts_with, with_digit, digit_more, decimal_in, bits_in, give_up_event, resetting_in, put, table_event, event_of}
+use Rattle.transaction_script.specs.Event.{open_word, reset_word, fresh_word, give_up_words, table_word, steady_word, resetting_word, starts_with, with_digit, digit_more, decimal_in, bits_in, give_up_event, resetting_in, put, table_event, word_event, longer_event, event_of}
 use Rattle.transaction_script.specs.Line.{max_text}
 
 -- ---- words
@@ -38,6 +40,51 @@ starts_front (x ∷ xs) (y ∷ ys) =
     by_test (eqb x y) (λ t. simp (t, eq-eqb y x (sym (eqb-true x y t)), eqb-suc-suc) (starts_front xs ys))
     (λ t. simp (t, ne_eqb y x (λ e. eqb-false x y t (sym e)), eqb-zero-suc))
 
+-- a word, letter by letter, as a match on it goes
+abbrev letters : List ℕ → ℕ → List ℕ → Bool
+letters text i [] = true
+letters text i (y ∷ ys) = cond (eqb (get_or text i 0) y) (letters text (suc i) ys) false
+
+letters_next : (x : ℕ) (xs ys : List ℕ) (i : ℕ) → letters (x ∷ xs) (suc i) ys ≡ letters xs i ys
+letters_next x xs [] i = refl
+letters_next x xs (y ∷ ys) i = ap (λ t. cond (eqb (get_or xs i 0) y) t false) (letters_next x xs ys (suc i))
+
+same_letters : (text word : List ℕ) → pointwise eqb text word ≡ eqb (length text) (length word) && letters text 0 word
+same_letters [] [] = refl
+same_letters [] (y ∷ ys) = rw eqb-zero-suc
+same_letters (x ∷ xs) [] = rw eqb-suc-zero
+same_letters (x ∷ xs) (y ∷ ys) =
+    by_test (eqb x y) (λ t. simp (t, eqb-suc-suc, letters_next x xs ys 0) (same_letters xs ys)) (λ t. simp (t, and-false))
+
+same_word : (text word : List ℕ) → is_same text word ≡ eqb (length text) (length word) && letters text 0 word
+same_word text word = same_is text word ∙ same_letters text word
+
+other_length : (xs ys : List ℕ) → length xs ≢ length ys → is_same xs ys ≡ false
+unfolding is_same
+other_length xs ys h = rw (ne_eqb (length xs) (length ys) h)
+
+-- by the length of a word, which of the words it may be
+module _ (word : List ℕ) where
+  pub resetting_short : length word ≤ 6 → resetting_in word ≡ cond (eqb (length word) 6 && letters word 0 steady_word) (Some false) None
+  unfolding resetting_in
+  resetting_short h = rw (other_length word resetting_word (λ e. omega arith), same_word word steady_word)
+
+  pub resetting_long : 6 < length word → resetting_in word ≡ cond (eqb (length word) 9 && letters word 0 resetting_word) (Some true) None
+  unfolding resetting_in
+  resetting_long h = rw (other_length word steady_word (λ e. omega arith), same_word word resetting_word)
+
+module _ (text : List ℕ) where
+  pub word_short : length text < 5 → word_event text ≡ cond (eqb (length text) 4 && letters text 0 open_word) (Some Open) None
+  unfolding word_event
+  word_short h =
+      rw (other_length text reset_word (λ e. omega arith), other_length text fresh_word (λ e. omega arith), same_word text open_word)
+
+  pub word_long : 4 < length text → word_event text ≡ cond (eqb (length text) 5 && letters text 0 reset_word) (Some Reset)
+      (cond (eqb (length text) 5 && letters text 0 fresh_word) (Some Fresh) None)
+  unfolding word_event
+  word_long h =
+      rw (other_length text open_word (λ e. omega arith), same_word text reset_word, same_word text fresh_word)
+
 common_take : (n : ℕ) (xs ys : List ℕ) → length ys ≤ n → common_front (take n xs) ys ≡ common_front xs ys
 unfolding common_front
 common_take zero [] ys h = refl
@@ -51,10 +98,6 @@ common_take (suc n) (x ∷ xs) (y ∷ ys) h = ap (λ k. cond (eqb x y) (suc k) 0
 pub starts_take : (n : ℕ) (text word : List ℕ) → length word ≤ n → starts_with (take n text) word ≡ starts_with text word
 unfolding starts_with
 starts_take n text word h = ap (λ k. eqb k (length word)) (common_take n text word h)
-
-other_length : (xs ys : List ℕ) → length ys < length xs → is_same xs ys ≡ false
-unfolding is_same
-other_length xs ys h = rw (ne_eqb (length xs) (length ys) (λ e. omega arith))
 
 -- ---- four letters and more are no number
 
@@ -108,7 +151,7 @@ long_give_up text l = rw (long_decimal text l)
 
 long_word : (word : List ℕ) → 9 < length word → resetting_in word ≡ None
 unfolding resetting_in
-long_word word l = rw (other_length word steady_word (omega arith), other_length word resetting_word l)
+long_word word l = rw (other_length word steady_word (λ e. omega arith), other_length word resetting_word (λ e. omega arith))
 
 put_none : (w g : Option ℕ) → put w g None ≡ None
 put_none None g = refl
@@ -136,7 +179,7 @@ module _ (text : List ℕ) (long : max_text < length text) where
   size = omega (arith, length-take max_text text)
 
   same : (word : List ℕ) → length word < max_text → is_same front word ≡ is_same text word
-  same word h = other_length front word (omega (arith, size)) ∙ sym (other_length text word (omega arith))
+  same word h = other_length front word (λ e. omega (arith, size)) ∙ sym (other_length text word (λ e. omega arith))
 
   gives : give_up_event (drop 8 front) ≡ give_up_event (drop 8 text)
   gives =
@@ -146,14 +189,19 @@ module _ (text : List ℕ) (long : max_text < length text) where
   puts : table_event (drop 6 front) ≡ table_event (drop 6 text)
   puts = long_table (drop 6 front) (omega (arith, size, length-drop 6 front)) ∙ sym (long_table (drop 6 text) (omega (arith, length-drop 6 text)))
 
+  long_word_event : word_event front ≡ word_event text
+  unfolding word_event
+  long_word_event = rw (same open_word (omega arith), same reset_word (omega arith), same fresh_word (omega arith))
+
+  long_longer_event : longer_event front ≡ longer_event text
+  unfolding longer_event
+  long_longer_event i =
+      cond (starts_take max_text text give_up_words (omega arith) i) (gives i)
+      (cond (starts_take max_text text table_word (omega arith) i) (puts i) None)
+
   long_event : event_of front ≡ event_of text
   unfolding event_of
-  long_event i =
-      cond (same open_word (omega arith) i) (Some Open)
-      (cond (same reset_word (omega arith) i) (Some Reset)
-      (cond (same fresh_word (omega arith) i) (Some Fresh)
-      (cond (starts_take max_text text give_up_words (omega arith) i) (gives i)
-      (cond (starts_take max_text text table_word (omega arith) i) (puts i) None))))
+  long_event = ap₂ option_or long_word_event long_longer_event
 
 pub event_take : (text : List ℕ) → event_of (take max_text text) ≡ event_of text
 event_take text =

@@ -1,5 +1,6 @@
 -- What a line asks for: the words of the script, letter by letter.
 use Rattle.std.specs.Prelude.{Bool, true, false, cond, ◌&&◌, Option, Some, None, ℕ, ◌+◌, ◌-◌, ◌*◌, eqb, ltb, length, get_or, take, drop}
+use Rattle.std.specs.Option.{option_or}
 use mathlib.Core.List.{List, [], ◌∷◌, foldl}
 use Rattle.octets.specs.Comparing.{common_front, is_same}
 use Rattle.octets.specs.Ranges.{is_between}
@@ -88,11 +89,17 @@ table_event text =
     (cond (eqb (get_or text 9 0) 0x20) (put (bits_in (take 4 text)) (bits_in (take 4 (drop 5 text))) (resetting_in (drop 10 text))) None)
     None)
 
+-- of a line that is one word
+unfoldable pub word_event : List ℕ → Option Event
+word_event text =
+    cond (is_same text open_word) (Some Open) (cond (is_same text reset_word) (Some Reset) (cond (is_same text fresh_word) (Some Fresh) None))
+
+-- of a line whose first words have something behind them
+unfoldable pub longer_event : List ℕ → Option Event
+longer_event text =
+    cond (starts_with text give_up_words) (give_up_event (drop 8 text))
+    (cond (starts_with text table_word) (table_event (drop 6 text)) None)
+
 -- of a line that is neither blank nor a comment nor a body; none where it is no event
 unfoldable pub event_of : List ℕ → Option Event
-event_of text =
-    cond (is_same text open_word) (Some Open)
-    (cond (is_same text reset_word) (Some Reset)
-    (cond (is_same text fresh_word) (Some Fresh)
-    (cond (starts_with text give_up_words) (give_up_event (drop 8 text))
-    (cond (starts_with text table_word) (table_event (drop 6 text)) None))))
+event_of text = option_or (word_event text) (longer_event text)

@@ -1,14 +1,13 @@
 // What a line asks for.
 ghost use Rattle.std.specs.Prelude.{◌≡◌};
-ghost use Rattle.transaction_script.specs.Event.{with_digit, decimal_in, bits_in, resetting_in, table_event, event_of};
+ghost use Rattle.transaction_script.specs.Event.{with_digit, decimal_in, bits_in, resetting_in, table_event, word_event, longer_event, event_of};
 
 use lines::{HexLine, read_line};
-use octets::same_octets;
 use transactions::Table;
 
 #[derive(Clone, Copy, PartialEq, Eq)]
 pub enum Event {
-    // A blank line or a comment.
+    // A blank line or a comment: a line in order, which asks for nothing. None is for a line that is no event, and is told so.
     Nothing,
     Open,
     Reset,
@@ -60,17 +59,15 @@ fn bits(text: &[u8]) -> Option<u16>
 }
 
 // Whether a reset is under way.
-#[tactic(auto, unfolding(crate::specs::Event::resetting_in))]
+#[tactic(auto, using(crate::proofs::LawsEvent::resetting_short, crate::proofs::LawsEvent::resetting_long))]
 fn resetting(word: &[u8]) -> Option<bool>
     ensures { result ≡ resetting_in word.now }
 {
-    if same_octets(word, b"steady") {
-        return Some(false);
+    match word {
+        b"steady" => Some(false),
+        b"resetting" => Some(true),
+        _ => None,
     }
-    if same_octets(word, b"resetting") {
-        return Some(true);
-    }
-    None
 }
 
 // What stands behind `table `: four digits, a space, four digits, a space, and a word.
@@ -88,22 +85,34 @@ fn table_event(text: &[u8]) -> Option<Event>
     }))
 }
 
-// The event of a line that is neither blank nor a comment nor a body, if it is one.
-#[tactic(auto, using(crate::proofs::LawsEvent::starts_is), unfolding(crate::specs::Event::event_of, crate::specs::Event::give_up_event))]
-pub fn event_of(text: &[u8]) -> Option<Event>
-    ensures { result ≡ event_of text.now }
+// The event of a line that is one word, if it is one.
+#[tactic(auto, using(crate::proofs::LawsEvent::word_short, crate::proofs::LawsEvent::word_long))]
+fn word_event(text: &[u8]) -> Option<Event>
+    ensures { result ≡ word_event text.now }
 {
-    if same_octets(text, b"open") {
-        return Some(Event::Open);
+    match text {
+        b"open" => Some(Event::Open),
+        b"reset" => Some(Event::Reset),
+        b"fresh" => Some(Event::Fresh),
+        _ => None,
     }
-    if same_octets(text, b"reset") {
-        return Some(Event::Reset);
-    }
-    if same_octets(text, b"fresh") {
-        return Some(Event::Fresh);
-    }
+}
+
+// The event of a line whose first words have something behind them, if it is one.
+#[tactic(auto, using(crate::proofs::LawsEvent::starts_is), unfolding(crate::specs::Event::longer_event, crate::specs::Event::give_up_event))]
+fn longer_event(text: &[u8]) -> Option<Event>
+    ensures { result ≡ longer_event text.now }
+{
     if let Some(number) = text.strip_prefix(b"give up ") {
         return Some(Event::GiveUp(decimal(number)?));
     }
     table_event(text.strip_prefix(b"table ")?)
+}
+
+// The event of a line that is neither blank nor a comment nor a body, if it is one.
+#[tactic(auto, unfolding(crate::specs::Event::event_of))]
+pub fn event_of(text: &[u8]) -> Option<Event>
+    ensures { result ≡ event_of text.now }
+{
+    word_event(text).or_else(|| longer_event(text))
 }

@@ -44,12 +44,14 @@ pub struct Played {
     pub table: Table,
 }
 
-fn answered(step: Step) -> Played
-    ensures { outcome_of result ≡ reporting (result_of step) }
-{
-    Played {
-        said: Said::Answer(step.answer),
-        table: step.table,
+impl From<Step> for Played {
+    ghost from_gives = { λ step played. outcome_of played ≡ reporting (result_of step) };
+
+    fn from(step: Step) -> Played {
+        Played {
+            said: Said::Answer(step.answer),
+            table: step.table,
+        }
     }
 }
 
@@ -75,10 +77,10 @@ pub fn play(table: Table, event: Option<Event>, body: &[u8]) -> Played
             said: Said::Nothing,
             table,
         },
-        Event::Open => answered(table.open()),
-        Event::Reset => answered(table.reset()),
-        Event::GiveUp(number) => answered(table.give_up(number)),
-        Event::Body(count) => answered(told(table, count, body)),
+        Event::Open => Played::from(table.open()),
+        Event::Reset => Played::from(table.reset()),
+        Event::GiveUp(number) => Played::from(table.give_up(number)),
+        Event::Body(count) => Played::from(told(table, count, body)),
         Event::Fresh => Played {
             said: Said::Done,
             table: Table::fresh(),
