@@ -7,7 +7,7 @@ use device::{BadSetup, Configured, Device, setup};
 use engine::{Answered, answer};
 use std::io::Stdout;
 
-// As `boxed`, and setup's answer is told.
+// As `boxed`, and setup's answer is told: a flag for one `if`, where a closure would be no plainer.
 pub fn set_up(case: Case) -> Option<()> {
     let text = after_word(case.text, b"links")?;
     boxed(Case { text, ..case }, true)

@@ -12,7 +12,7 @@ struct Wire {
     assembly: [u8; Reader::MAX_GATHERED],
 }
 
-// The calls, of which the first may go untold.
+// The calls, of which the first may go untold: a flag for one `if`, where a closure would be no plainer.
 pub fn read(case: Case, first_told: bool) -> Option<()> {
     if !are_calls(case.text) {
         return None;
