@@ -1,10 +1,11 @@
 -- Laws of fates: of gathered octets, and of pieces.
 use mathlib.Core.Bool.{true, false}
 use mathlib.Core.Path.{◌≡◌, refl, sym, ap, ◌∙◌}
-use mathlib.Core.List.{List, []}
+use mathlib.Core.List.{List, [], ◌∷◌}
 use Prim.Native.Nat.{ℕ, ◌-◌, ◌/◌, ◌≤◌, ◌<◌}
 use native.Mathlib.Omega.{arith}
 use borrow.Author.Tests.{ltb-false, eqb-true, eq-eqb, not-false}
+use Rattle.std.specs.Prelude.{Some}
 use lib.Dec.{ltb, eqb}
 use lib.ListN.{length, take, length-take}
 use lib.Seq.{length-take-le, get_or-take, take-take}
@@ -14,7 +15,7 @@ use Rattle.octets.proofs.LawsTests.{by_test, chosen, impossible}
 use Rattle.frame.specs.Fcs.{fcs}
 use Rattle.hdlc.specs.declared.reader.Fate.{Fate}
 use Rattle.hdlc.specs.declared.reader.Fate.TheVariants.{Unfinished, Checked, Short, WrongCheck, TooLong, CutEscape, BadHeader}
-use Rattle.hdlc.specs.Fate.{Fated, checked, unchecked, decided, fated}
+use Rattle.hdlc.specs.Fate.{Fated, checked, unchecked, decided, given, fated, told}
 use Rattle.hdlc.specs.Reader.{max_gathered, body_of, check_of, headed, frame_fate}
 use Rattle.hdlc.specs.Wire.{gathered, content_fate, piece_fate, CheckedPiece}
 
@@ -62,7 +63,7 @@ body_shorter g =
     (λ e. absurd (omega arith)) (λ many _ _ _. omega (arith, body_size g)))
 
 -- so it stands at the front of the buffer that they stand in
-pub fated_front : (f : Fate) (n : ℕ) (a : List ℕ) → fated f (take n a) ≡ frame_fate (take n a) → fated f a ≡ frame_fate (take n a)
+fated_front : (f : Fate) (n : ℕ) (a : List ℕ) → fated f (take n a) ≡ frame_fate (take n a) → fated f a ≡ frame_fate (take n a)
 fated_front Unfinished n a e = e
 fated_front (Checked m) n a e =
     let size = ap (λ z. length z.body) e in
@@ -73,6 +74,13 @@ fated_front WrongCheck n a e = e
 fated_front TooLong n a e = e
 fated_front CutEscape n a e = e
 fated_front BadHeader n a e = e
+
+pub frame_decided : (g : List ℕ) → decided (frame_fate g) ≡ true
+frame_decided g = rw (content_fate_lem g) (by_content (λ f. decided f ≡ true) g refl refl refl (λ _ _ _. refl))
+
+pub told_front : (f : Fate) (n : ℕ) (a : List ℕ) → fated f (take n a) ≡ frame_fate (take n a) → told (Some f) a ≡ given (frame_fate (take n a))
+unfolding given
+told_front f n a e = rw (frame_decided (take n a)) (ap (λ z. z ∷ []) (fated_front f n a e))
 
 -- ---- pieces
 

@@ -1,5 +1,5 @@
 -- What becomes of a frame (01, Octets on the wire, the table of numbers).
-use Rattle.std.specs.Prelude.{Bool, not, cond, List, [], ◌∷◌, ℕ, ◌+◌, eqb, take}
+use Rattle.std.specs.Prelude.{Bool, not, cond, List, [], ◌∷◌, ℕ, ◌+◌, eqb, take, Option, None, Some}
 use Rattle.hdlc.specs.declared.reader.Fate.{Fate}
 use Rattle.hdlc.specs.declared.reader.Fate.TheVariants.{Unfinished, Checked, Short, WrongCheck, TooLong, CutEscape, BadHeader}
 
@@ -47,6 +47,11 @@ body_in BadHeader a = []
 
 abbrev pub fated : Fate → List ℕ → Fated
 fated f a = record { number = fate_number f; body = body_in f a }
+
+-- as a list, of an octet that decides one or none
+abbrev pub told : Option Fate → List ℕ → List Fated
+told None a = []
+told (Some f) a = fated f a ∷ []
 
 -- ---- a call
 

@@ -1,14 +1,15 @@
 // The frame reader. Its state goes in and out by value; the octets that it gathers stand in a lent assembly buffer.
 ghost use Rattle.std.specs.Prelude.{true, ◌≡◌, ◌≤◌, length};
-ghost use Rattle.hdlc.specs.Fate.{fate_number, fated};
+ghost use Rattle.frame.specs.Kind.{is_escape, kind_of};
+ghost use Rattle.hdlc.specs.Fate.{fate_number, fated, given, told};
 ghost use Rattle.hdlc.specs.Reader.{max_gathered, gathering, fresh, assembling, outcome, frame_fate, flag_fate, gather, after_content, after_octet, fate_at, run};
 ghost use Rattle.hdlc.specs.Rules.{rules};
 
 use frame::{OctetKind, fcs16};
 use octets::{Body, read_le};
 
-// What became of a frame, with 01's number of each fate. It stays a flat enum: the definitions name the seven of the paper's list, which an
-// Option of a Result would hide.
+// What became of a frame, with 01's number of each fate. It stays a flat enum: 01 lists seven fates, each with its number, and callers match
+// that list; an Option of a Result would be no plainer.
 #[derive(Clone, Copy, PartialEq, Eq)]
 pub enum Fate {
     // 0: the input ended and no frame is finished.
@@ -44,6 +45,8 @@ impl Fate {
     }
 }
 
+// The two flags stay beside the count, though the rules forbid some of their pairs: 01 gives a reader's state these fields, and a call may be
+// lent any of them (refusal 11).
 #[derive(Clone, Copy, PartialEq, Eq)]
 pub struct Reader {
     // How many octets are gathered, from the front of the assembly buffer.
@@ -63,9 +66,10 @@ pub struct Reading {
     pub reader: Reader,
 }
 
+// What one octet gives: a fate, if it decides one.
 #[derive(Clone, Copy)]
 struct Step {
-    fate: Fate,
+    fate: Option<Fate>,
     reader: Reader,
 }
 
@@ -102,22 +106,22 @@ impl Reader {
             && (!self.discarding || (!self.escaped && self.count == Reader::MAX_GATHERED))
     }
 
-    // The fate that a flag gives, `Unfinished` where no frame ends.
-    #[tactic(auto, using(crate::proofs::LawsFates::fated_front), unfolding(crate::specs::Reader::flag_fate))]
-    fn flag_fate(self, assembly: &[u8]) -> Fate
+    // The fate that a flag gives, if a frame ends.
+    #[tactic(auto, using(crate::proofs::LawsFates::told_front), unfolding(crate::specs::Reader::flag_fate, crate::specs::Fate::given))]
+    fn flag_fate(self, assembly: &[u8]) -> Option<Fate>
         requires { self.count ≤ length assembly.now }
-        ensures { fated result assembly.now ≡ flag_fate (assembling self assembly.now) }
+        ensures { told result assembly.now ≡ given (flag_fate (assembling self assembly.now)) }
     {
         if self.discarding {
-            return Fate::TooLong;
+            return Some(Fate::TooLong);
         }
         if self.escaped {
-            return Fate::CutEscape;
+            return Some(Fate::CutEscape);
         }
         if self.count == 0 {
-            return Fate::Unfinished;
+            return None;
         }
-        frame_fate(&assembly[..self.count])
+        Some(frame_fate(&assembly[..self.count]))
     }
 
     // One octet more is gathered; one too many starts the discard.
@@ -137,11 +141,11 @@ impl Reader {
         }
     }
 
-    // An octet of a frame's content: neither a flag nor skipped.
-    #[tactic(auto, unfolding(crate::specs::Reader::after_content))]
-    fn take_content(self, escape: bool, octet: u8, assembly: &mut [u8]) -> Reader
-        requires { max_gathered ≤ length assembly.old }
-        ensures { assembling result assembly.new ≡ after_content (assembling self assembly.old) escape octet }
+    // An octet of a frame's content, of its kind: neither a flag nor skipped.
+    #[tactic(auto, unfolding(crate::specs::Reader::after_content, frame::specs::Kind::kind_of, frame::specs::Kind::is_flag, frame::specs::Kind::is_escape, frame::specs::Kind::is_skipped))]
+    fn take_content(self, kind: OctetKind, octet: u8, assembly: &mut [u8]) -> Reader
+        requires { (kind ≡ kind_of octet) × (max_gathered ≤ length assembly.old) }
+        ensures { assembling result assembly.new ≡ after_content (assembling self assembly.old) (is_escape octet) octet }
     {
         if self.discarding {
             return self;
@@ -149,17 +153,17 @@ impl Reader {
         if self.escaped {
             return self.gather(octet ^ 0x20, assembly);
         }
-        if escape {
+        if kind == OctetKind::Escape {
             return Reader::gathering(self.count, true);
         }
         self.gather(octet, assembly)
     }
 
     // One octet: the fate that it decides, and the reader after it.
-    #[tactic(auto, unfolding(crate::specs::Reader::fate_at, crate::specs::Reader::after_octet, frame::specs::Kind::kind_of, frame::specs::Kind::is_flag, frame::specs::Kind::is_escape, frame::specs::Kind::is_skipped))]
+    #[tactic(auto, unfolding(crate::specs::Reader::fate_at, crate::specs::Reader::after_octet, crate::specs::Fate::given, frame::specs::Kind::kind_of, frame::specs::Kind::is_flag, frame::specs::Kind::is_escape, frame::specs::Kind::is_skipped))]
     fn read_octet(self, octet: u8, assembly: &mut [u8]) -> Step
         requires { (self.count ≤ max_gathered) × (max_gathered ≤ length assembly.old) }
-        ensures { (fated result.fate assembly.new ≡ fate_at (assembling self assembly.old) octet)
+        ensures { (told result.fate assembly.new ≡ given (fate_at (assembling self assembly.old) octet))
             × (assembling result.reader assembly.new ≡ after_octet (assembling self assembly.old) octet) }
     {
         match OctetKind::from(octet) {
@@ -168,16 +172,12 @@ impl Reader {
                 reader: Reader::fresh(),
             },
             OctetKind::Skipped => Step {
-                fate: Fate::Unfinished,
+                fate: None,
                 reader: self,
             },
-            OctetKind::Escape => Step {
-                fate: Fate::Unfinished,
-                reader: self.take_content(true, octet, assembly),
-            },
-            OctetKind::Plain => Step {
-                fate: Fate::Unfinished,
-                reader: self.take_content(false, octet, assembly),
+            kind => Step {
+                fate: None,
+                reader: self.take_content(kind, octet, assembly),
             },
         }
     }
@@ -210,23 +210,16 @@ pub fn read_frame(mut reader: Reader, input: &[u8], assembly: &mut [u8]) -> Read
         ≡ run (assembling reader assembly.old) input.now }
 {
     let mut at: usize = 0;
-    loop {
+    let (fate, read) = loop {
         if at == input.len() {
-            break Reading {
-                fate: Fate::Unfinished,
-                read: at,
-                reader,
-            };
+            break (Fate::Unfinished, at);
         }
         let step = reader.read_octet(input[at], assembly);
         at += 1;
         reader = step.reader;
-        if step.fate != Fate::Unfinished {
-            break Reading {
-                fate: step.fate,
-                read: at,
-                reader,
-            };
+        if let Some(fate) = step.fate {
+            break (fate, at);
         }
-    }
+    };
+    Reading { fate, read, reader }
 }

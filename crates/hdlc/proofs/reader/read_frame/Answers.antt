@@ -5,7 +5,7 @@ use lib.ListN.{get_or}
 use Rattle.hdlc.specs.Reader.{assembling}
 use Rattle.hdlc.specs.Rules.{rules as reader-rules}
 use Rattle.std.proofs.Common.{rules}
-use Rattle.hdlc.proofs.LawsReading.{undecided_fate, decided_fate, run_end, run_next, run_decided}
+use Rattle.hdlc.proofs.LawsReading.{run_end, run_next, run_decided}
 use Rattle.hdlc.proofs.ReaderRules.{rules_told, after_rules}
 use Rattle.hdlc.proofs.reader.read_frame.Goals as goal
 
@@ -23,7 +23,7 @@ loop-at-preserved c =
       inside = omega arith;
       keeps = ap (λ g. reader-rules g.reader) step.ensures.1 ∙ after_rules h (get_or input w.at 0) (omega arith) w.invariant.keeps;
       left =
-          sym (run_next h input w.at (omega arith) step.ensures.0 step.ensures.1 (undecided_fate _ step.new.assembly (search rules)))
+          sym (run_next h input w.at (omega arith) _ _ step.ensures.0 step.ensures.1 (search rules))
           ∙ w.invariant.left;
     }
 
@@ -32,11 +32,10 @@ returns-then-at-input c =
     let w = c.loop-at in
     sym (run_end _ c.args.input.now w.at (omega arith)) ∙ w.invariant.left
 
-pub returns-then-ne : goal.returns-then-ne
-returns-then-ne c =
+pub returns-in-Some : goal.returns-in-Some
+returns-in-Some c =
     let step = c.read_octet-step in
     let w = c.loop-at in
     sym
-    (run_decided (assembling w.reader w.assembly) c.args.input.now w.at (omega arith) step.ensures.0 step.ensures.1
-    (decided_fate _ step.new.assembly (λ e. absurd (search rules))))
+    (run_decided (assembling w.reader w.assembly) c.args.input.now w.at (omega arith) _ _ step.ensures.0 step.ensures.1 _ (search rules))
     ∙ w.invariant.left
