@@ -15,7 +15,7 @@ use Rattle.device.proofs.LawsPorts.{ports_length}
 use Rattle.std.specs.Prelude.{Ok, Err}
 use Rattle.property.specs.declared.status.Status.{Status}
 use Rattle.property.specs.declared.status.Status.TheVariants.{ParseError}
-use Rattle.method.specs.Items.{port_in, without}
+use Rattle.method.specs.Items.{whole, port_in, without}
 
 -- ---- lists without a number
 
@@ -104,11 +104,11 @@ port_inside v xs h = omega (arith, ltb-true (before v (ports_in xs)) (length (po
 
 -- the port of a payload, or that it holds none
 pub port_read : (p : List ℕ) (v : ℕ) → port_in p ≡ Ok v → (eqb (length p) 2 ≡ true) × (v ≡ le p)
-unfolding port_in
+unfolding whole
 port_read p v e =
     by_test (eqb (length p) 2) (λ t. let read = rw t at e in (t, cc)) (λ t. let none = rw t at e in impossible cc)
 
 pub port_missing : (p : List ℕ) (s : Status) → port_in p ≡ Err s → (eqb (length p) 2 ≡ false) × (s ≡ ParseError)
-unfolding port_in
+unfolding whole
 port_missing p s e =
     by_test (eqb (length p) 2) (λ t. let read = rw t at e in impossible cc) (λ t. let none = rw t at e in (t, cc))

@@ -12,9 +12,13 @@ use Rattle.method.specs.Outcome.{Outcome, done, with_ports}
 abbrev pub ports_held : Link → List ℕ
 ports_held l = ports_in (octets_of l.ports)
 
--- "payload of wrong shape .. 9": a port is two octets
-unfoldable pub port_in : List ℕ → Result ℕ Status
-port_in p = cond (eqb (length p) 2) (Ok (le p)) (Err ParseError)
+-- the number that a payload of so many octets holds: "payload of wrong shape .. 9"
+unfoldable pub whole : ℕ → List ℕ → Result ℕ Status
+whole width p = cond (eqb (length p) width) (Ok (le p)) (Err ParseError)
+
+-- a port is two octets
+abbrev pub port_in : List ℕ → Result ℕ Status
+port_in p = whole 2 p
 
 -- "INSERT: held already 19, else full 11"; "Ports keep insertion order"
 unfoldable pub insert_port : Link → List ℕ → Outcome

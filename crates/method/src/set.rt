@@ -5,23 +5,21 @@ ghost use Rattle.property.specs.Rule.{row_rule};
 ghost use Rattle.device.specs.Rules.{link_rule};
 ghost use Rattle.method.specs.Set.{value_in, set_number, set_power, set_name, set_ports, set_kind};
 
+use crate::items::read_whole;
 use crate::outcome::{Performed, done};
 use device::ports::are_distinct;
 use device::text::is_text;
 use device::{Effect, Held, Link, stack_keeps};
-use octets::{find_octet, read_le};
+use octets::find_octet;
 use property::{Kind, Number, Row, Status, is_within, number_at, power_state};
 
 // The number that a payload holds, whole.
-#[tactic(auto, using(crate::proofs::LawsNumbers::le_whole), unfolding(crate::specs::Set::value_in))]
+#[tactic(auto, unfolding(crate::specs::Set::value_in, crate::specs::Items::whole))]
 fn read_number(number: Number, payload: &[u8]) -> Result<u32, Status>
     requires { number.width ≤ 4 }
     ensures { result ≡ value_in number payload.now }
 {
-    if payload.len() != number.width {
-        return Err(Status::ParseError);
-    }
-    let value = read_le(payload, 0, number.width);
+    let value = read_whole(payload, number.width)?;
     if !is_within(number, value) {
         return Err(number.outside);
     }
