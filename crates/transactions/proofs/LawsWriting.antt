@@ -8,12 +8,15 @@ use borrow.Author.Tests.{le-leb, leb-true, ne_eqb, eqb-false, not-true, lt-ltb, 
 use lib.Dec.{eqb, leb}
 use lib.ListN.{length, take, drop, length-append}
 use lib.Seq.{take-append_seam}
+use Rattle.std.specs.Prelude.{Some, ◌≢◌}
+use Rattle.std.proofs.lemmas.Option.{same_Some}
 use Rattle.octets.specs.Writing.{Wrote}
 use Rattle.octets.specs.Body.{max_body}
 use Rattle.octets.proofs.LawsTests.{and_l, and_r}
 use Rattle.octets.proofs.LawsWriting.{front_count, front_held}
 use Rattle.packed.specs.Packed.{packed, max_packed}
 use Rattle.frame.specs.Frame.{frame, written, writing}
+use Rattle.frame.proofs.FrameBounds.{frame_bounds}
 use Rattle.transactions.specs.Table.{max_number}
 use Rattle.transactions.specs.Writing.{command_body, Sendable, is_sendable, nothing, writing_fitting, writing_command}
 
@@ -55,6 +58,11 @@ framed body space space' count e =
       stands = ap₂ take n s ∙ take-append_seam (frame body) (drop (length (frame body)) space);
       inside = omega (arith, n, ap length s, length-append (frame body) (drop (length (frame body)) space));
     }
+
+-- its count is no 0
+pub some_octets : (body space space' : List ℕ) (count : ℕ) → written count space' ≡ writing body space → Some count ≢ Some 0
+some_octets body space space' count e z =
+    let same = same_Some count 0 z in absurd (omega (arith, same, (framed body space space' count e).count_is, (frame_bounds body).0))
 
 -- ---- what fits
 

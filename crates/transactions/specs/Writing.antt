@@ -41,7 +41,7 @@ is_sendable link number command =
 abbrev pub nothing : List ℕ → Written
 nothing out = written 0 out
 
--- the code's answer as a count; 0 is no length of a frame
+-- the code's answer as a count; 0 is no length of a frame, and never a Some
 abbrev pub count_of : Option ℕ → ℕ
 count_of (Some n) = n
 count_of None = 0

@@ -1,6 +1,6 @@
 // What the host sends: commands under a transaction number, and resets. A writer returns how many octets its frame takes, or None where it
 // writes nothing.
-ghost use Rattle.std.specs.Prelude.{◌≡◌};
+ghost use Rattle.std.specs.Prelude.{Some, ◌≡◌, ◌≢◌};
 ghost use Rattle.octets.specs.Body.{Body as IsBody};
 ghost use Rattle.frame.specs.Frame.{written};
 ghost use Rattle.transactions.specs.Writing.{count_of, is_sendable, writing_fitting, writing_command, writing_reset};
@@ -31,7 +31,8 @@ fn is_sendable(link: u8, number: u8, command: u32) -> bool
 #[tactic(auto, using(frame::proofs::FrameBounds::frame_bounds))]
 fn write_tight(body: &[u8], out: &mut [u8]) -> Option<usize>
     requires { IsBody body.now }
-    ensures { written (count_of result) out.new ≡ writing_fitting body.now out.old }
+    ensures frame { written (count_of result) out.new ≡ writing_fitting body.now out.old }
+    ensures some { result ≢ Some 0 }
 {
     let mut space = [0u8; MAX_FRAME];
     let count = write_frame(body, &mut space);
@@ -45,7 +46,8 @@ fn write_tight(body: &[u8], out: &mut [u8]) -> Option<usize>
 #[tactic(auto, using(frame::proofs::FrameBounds::frame_bounds, crate::proofs::LawsWriting::fits_written))]
 fn write_fitting(body: &[u8], out: &mut [u8]) -> Option<usize>
     requires { IsBody body.now }
-    ensures { written (count_of result) out.new ≡ writing_fitting body.now out.old }
+    ensures frame { written (count_of result) out.new ≡ writing_fitting body.now out.old }
+    ensures some { result ≢ Some 0 }
 {
     if out.len() < 2 * body.len() + 6 {
         return write_tight(body, out);
@@ -63,7 +65,8 @@ pub fn write_command(
     payload: &[u8],
     out: &mut [u8],
 ) -> Option<usize>
-    ensures { written (count_of result) out.new ≡ writing_command link number command payload.now out.old }
+    ensures frame { written (count_of result) out.new ≡ writing_command link number command payload.now out.old }
+    ensures some { result ≢ Some 0 }
 {
     if !is_sendable(link, number, command) {
         return None;
@@ -80,7 +83,8 @@ pub fn write_command(
 
 // Writes the frame of a reset, 80 01, which the table is asked to allow first. Writes nothing where it does not fit.
 pub fn write_reset(out: &mut [u8]) -> Option<usize>
-    ensures { written (count_of result) out.new ≡ writing_reset out.old }
+    ensures frame { written (count_of result) out.new ≡ writing_reset out.old }
+    ensures some { result ≢ Some 0 }
 {
     write_fitting(&[0x80, 0x01], out)
 }

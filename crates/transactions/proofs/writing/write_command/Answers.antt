@@ -46,8 +46,8 @@ module _ (link number command : ℕ) (payload h0 h1 h2 : List ℕ) (a b e : ℕ)
         ap₂ take ends (front_held {s = space} (rw (length-replicate {A = ℕ} 1300 0) size) all)
         ∙ take-append_seam (command_body link number command payload) _
 
-pub returns-then-at_payload-payload : goal.returns-then-at_payload-payload
-returns-then-at_payload-payload c =
+pub returns-then-at_payload-payload-clause-frame : goal.returns-then-at_payload-payload-clause-frame
+returns-then-at_payload-payload-clause-frame c =
     sym
     (command_long _ _ _ _ _ (sym c.is_sendable.ensures ∙ c.if-not-is_sendable.false)
     (omega (
@@ -86,8 +86,8 @@ write_fitting-requires c =
     c.write_octets-end.ensures c.if-at_payload-payload.false in
     rw s (omega (arith, body_size a.link a.number a.command a.payload.now, (packed_size a.command).0), m)
 
-pub returns : goal.returns
-returns c =
+pub returns-clause-frame : goal.returns-clause-frame
+returns-clause-frame c =
     let a = c.args in
     let s =
     stands a.link a.number a.command a.payload.now _ _ _ _ _ _ c.write_octet-at_command.ensures c.write_packed-at_payload.ensures
@@ -95,5 +95,5 @@ returns c =
     let m =
     size a.link a.number a.command a.payload.now _ _ _ _ _ _ c.write_octet-at_command.ensures c.write_packed-at_payload.ensures
     c.write_octets-end.ensures c.if-at_payload-payload.false in
-    c.write_fitting.ensures ∙ ap (λ b. writing_fitting b a.out.now) s
+    c.write_fitting.ensures.frame ∙ ap (λ b. writing_fitting b a.out.now) s
     ∙ sym (command_fitting _ _ _ _ _ (sym c.is_sendable.ensures ∙ c.if-not-is_sendable.false) m)
