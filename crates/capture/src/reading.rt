@@ -16,7 +16,7 @@ pub enum ReadError {
 }
 
 impl ReadError {
-    // 02's number of a refusal.
+    // 02's number of a refusal. Each enum of refusals tells its own (docs/PROMISES.md): a trait for the one line would have to be imported.
     pub fn number(self) -> u32
         ensures { result ≡ number_of self }
     {

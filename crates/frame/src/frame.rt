@@ -34,7 +34,8 @@ fn write_stuffed(out: &mut [u8], at: usize, octets: &[u8]) -> usize
     next
 }
 
-// Writes a body's frame from the front of `out` and returns how many octets it takes.
+// Writes a body's frame from the front of `out` and returns how many octets it takes. A body is a slice, as whoever has it lends it, and no
+// type: that it has 2 to 1,300 octets is asked where it is framed.
 pub fn write_frame(body: &[u8], out: &mut [u8]) -> usize
     requires { Body body.now × (length (frame body.now) ≤ length out.old) }
     ensures { written result out.new ≡ writing body.now out.old }

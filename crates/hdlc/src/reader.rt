@@ -124,7 +124,8 @@ impl Reader {
         Some(frame_fate(&assembly[..self.count]))
     }
 
-    // One octet more is gathered; one too many starts the discard.
+    // One octet more is gathered; one too many starts the discard. The buffer is a slice with room: who lends a longer one may, as `read_frame`
+    // is promised.
     #[tactic(auto, unfolding(crate::specs::Reader::gather))]
     fn gather(self, octet: u8, assembly: &mut [u8]) -> Reader
         requires { max_gathered ≤ length assembly.old }

@@ -12,7 +12,7 @@ use octets::{write_le, write_octet, write_octets};
 use packed::write_packed;
 use property::{Kind, ReadOnly, Row, number_at};
 
-// A text and the zero that ends it.
+// A text and the zero that ends it. Like all below, it asks for room in a clause: `write_reply` is promised for any space with room.
 fn write_text(out: &mut [u8], at: usize, text: &[u8]) -> usize
     requires { at + length text.now < length out.old }
     ensures { Wrote out.old out.new at result (text.now ++ (0 ∷ [])) }

@@ -6,7 +6,8 @@ ghost use Rattle.std.specs.Io.KnownBytes.{Consumes};
 
 use std::io::Read;
 
-// Reads once. Returns how many octets came, at the front of the space: 0 at the end of the input, and where the read failed or was interrupted.
+// Reads once. Returns how many octets came, at the front of the space: 0 at the end of the input, as std's `read`, and where the read failed
+// or was interrupted.
 pub fn read_some<R: Read>(reader: &mut R, space: &mut [u8]) -> usize
     ensures in_bounds { result ≤ length space.new }
     ensures count { result ≡ length (take result space.new) }
