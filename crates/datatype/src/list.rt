@@ -42,6 +42,7 @@ impl Read {
     }
 }
 
+// By index: with `get_mut` the check does not see that a list with no such place stays as it was.
 fn put_number(list: &mut [u32], at: usize, n: u32)
     ensures { list.new ≡ set list.old at n }
 {

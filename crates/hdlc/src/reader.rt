@@ -197,6 +197,7 @@ fn frame_fate(gathered: &[u8]) -> Fate
     if read_le(gathered, body, 2) != u32::from(fcs16(&gathered[..body])) {
         return Fate::WrongCheck;
     }
+    // The top two bits, written out wherever they are asked: a function for them would be as long.
     if gathered[0] / 64 != 2 {
         return Fate::BadHeader;
     }

@@ -9,8 +9,8 @@ pub fn common_front(a: &[u8], b: &[u8]) -> usize
     a.iter().zip(b).take_while(|(x, y)| **x == **y).count()
 }
 
-#[tactic(auto, using(crate::proofs::LawsComparing::same_is))]
 // The slices' own `==`, for callers whose contracts speak of `is_same`.
+#[tactic(auto, using(crate::proofs::LawsComparing::same_is))]
 pub fn same_octets(a: &[u8], b: &[u8]) -> bool
     ensures { result ≡ is_same a.now b.now }
 {

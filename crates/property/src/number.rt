@@ -6,14 +6,16 @@ ghost use Rattle.property.specs.Rule.{number_rule};
 use crate::slot;
 use crate::status::Status;
 
-// A number's octets; its values, from low to high, or where low is above high those but the ones between; the largest number of the
-// width; the status of any other value.
+// A number, and the values that it may have: from low to high, or where low is above high from low to top and from 0 to high.
 #[derive(Clone, Copy, PartialEq, Eq)]
 pub struct Number {
+    // How many octets it has.
     pub width: usize,
     pub low: u32,
     pub high: u32,
+    // The largest number of the width.
     pub top: u32,
+    // The status of any other value.
     pub outside: Status,
     pub default: u32,
 }

@@ -34,7 +34,8 @@ impl Model for Playback {
     ghost invariant = { Keeps };
 }
 
-// The line for a record: yes or no, and none for one to the box. Where there may be no record either, it is an `Option<Line>`.
+// The line for a record: yes or no, and none for one to the box. Where there may be no record either, it is an `Option<Line>`,
+// so that `?` ends the turn there.
 pub type Line = Option<bool>;
 
 impl Playback {

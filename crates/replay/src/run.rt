@@ -27,6 +27,7 @@ fn play_next(
     play_chunk(playback, &space[..read])
 }
 
+// By a match: an `Option<bool>` is displayed by nobody else.
 fn print(stdout: Stdout, line: Line) -> io::Result<()> {
     match line {
         None => Ok(()),

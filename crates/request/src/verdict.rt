@@ -17,7 +17,7 @@ pub enum Refusal {
 }
 
 impl Refusal {
-    // The step of 01, Commands, that stops the body.
+    // The step of 01, Commands, that stops the body. Step, status and cause are methods by these names in docs/PROMISES.md, and no From.
     pub fn step(self) -> u8
         ensures { result ≡ step_of self }
     {

@@ -141,6 +141,7 @@ pub fn receive(
     let mut reply = [0u8; Device::MAX_REPLY];
     let mut received = read_and_answer(device, reader, input, assembly, &mut reply);
     let len = received.written;
+    // A reply has octets: 01 has a call that writes none return 0.
     if 0 < len {
         received.written = write_frame(&reply[..len], output);
     }

@@ -31,7 +31,7 @@ fn with_digit(number: u8, letter: u8) -> Option<u8>
     }
 }
 
-// A decimal of 0 to 255 without leading zeros.
+// A decimal of 0 to 255 without leading zeros, which `vectors` allows: so each has its own.
 #[tactic(auto, unfolding(crate::specs::Event::decimal_in))]
 fn decimal(text: &[u8]) -> Option<u8>
     ensures { result ≡ decimal_in text.now }

@@ -8,7 +8,8 @@ use octets::Body;
 
 #[derive(Clone, Copy)]
 pub struct Line {
-    // Its first octets: as many as the longest event that is no body has, and one more. An array with a length beside it, since there is no heap.
+    // Its first octets: as many as the longest event that is no body has, and one more. An array with a length beside it, since there is no heap;
+    // `device` has a type for such, which this program does not stand on.
     pub text: [u8; Line::MAX_TEXT],
     // How many octets it has, or the most that are kept. That bound stands in clauses: as a ghost field of the line it would be a part of every
     // line in the definitions.

@@ -24,7 +24,7 @@ impl BodyKind {
         if body == [0x80, 0x06, 0x00, 0x72].as_slice() {
             return BodyKind::Announcement;
         }
-        if body.len() < Body::MIN_OCTETS || Body::MAX_OCTETS < body.len() || body[0] / 64 != 2 {
+        if !(Body::MIN_OCTETS..=Body::MAX_OCTETS).contains(&body.len()) || body[0] / 64 != 2 {
             return BodyKind::Other;
         }
         BodyKind::Reply(body[0] % 16)

@@ -28,7 +28,7 @@ pub enum ItemKind {
     Array,
 }
 
-// What a letter stands for. A bracket is no letter.
+// What a letter stands for. A bracket is no letter. A function and no TryFrom: none is no error, and docs/PROMISES.md has it by this name.
 #[tactic(auto, unfolding(crate::specs::Kind::kind_of))]
 pub fn kind_of(octet: u8) -> Option<ItemKind>
     ensures { result ≡ kind_of octet }

@@ -1,4 +1,5 @@
-// Printing on standard output, here and by `print!`. What cannot be written is lost: whoever compares the output sees it.
+// Printing on standard output, here and by `print!`. What cannot be written is lost: whoever compares the output sees it. What is told is of other
+// crates' types, and by parts: a Display would need a type of its own for each.
 use hdlc::Reader;
 use lines::write_line;
 use std::io::Stdout;
