@@ -40,14 +40,20 @@ rules_kept d r e = both_told (not-false _ e)
 
 module _ (d : Device) (r : Reader) (a : List ℕ) where
   -- one of their refusals is that of either call
-  pub admit_err : {e : Refusal} → Err e ≡ admit d r a → (input out : List ℕ)
-      → (refused (refusal_number e) d r a out ≡ receive d r input a out) × (refused (refusal_number e) d r a out ≡ receive_body d r input a out)
-  unfolding admit receive receive_body
-  admit_err {e} is input out =
-      by_test (breaks_rules d r) (λ t. let found = rw t at is in let same : e ≡ BadState = cc in rw (t, same) (refl, refl))
-      (λ t.
-      by_test (ltb (length a) max_gathered) (λ u. let found = rw (t, u) at is in let same : e ≡ SmallAssembly = cc in rw (t, u, same) (refl, refl))
-      (λ u. let found = rw (t, u) at is in cc))
+  module _ {e : Refusal} (is : Err e ≡ admit d r a) (input out : List ℕ) where
+    both_refused : (refused (refusal_number e) d r a out ≡ receive d r input a out) × (refused (refusal_number e) d r a out ≡ receive_body d r input a out)
+    unfolding admit receive receive_body
+    both_refused =
+        by_test (breaks_rules d r) (λ t. let found = rw t at is in let same : e ≡ BadState = cc in rw (t, same) (refl, refl))
+        (λ t.
+        by_test (ltb (length a) max_gathered) (λ u. let found = rw (t, u) at is in let same : e ≡ SmallAssembly = cc in rw (t, u, same) (refl, refl))
+        (λ u. let found = rw (t, u) at is in cc))
+
+    pub refused_call : refused (refusal_number e) d r a out ≡ receive d r input a out
+    refused_call = both_refused.0
+
+    pub refused_body : refused (refusal_number e) d r a out ≡ receive_body d r input a out
+    refused_body = both_refused.1
 
   -- a call that goes on has nothing of them
   pub admit_ok : Ok tt ≡ admit d r a → Keeps d r a

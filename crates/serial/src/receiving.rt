@@ -94,6 +94,7 @@ fn admit(device: Device, reader: Reader, assembly: &[u8]) -> Result<(), Refusal>
 }
 
 // Reads to the first fate, and has a checked body answered. The reply goes to the front of the space.
+#[tactic(auto, unfolding(crate::specs::Receiving::unrefused))]
 fn read_and_answer(
     device: Device,
     reader: Reader,
@@ -122,6 +123,7 @@ fn read_and_answer(
 
 // Takes any box, any reader, any input and any buffers. A refused call reads nothing, writes nothing and hands both states back.
 // Box, reader and buffers come one by one, and the states go out again: this is the form that 01 gives the call.
+#[tactic(auto, using(crate::proofs::LawsReceiving::refused_call, crate::proofs::LawsReceiving::admit_ok))]
 pub fn receive(
     device: Device,
     reader: Reader,
@@ -149,6 +151,7 @@ pub fn receive(
 }
 
 // As `receive`, before framing: the reply's body stands at the front of the space, which always has room for it.
+#[tactic(auto, using(crate::proofs::LawsReceiving::refused_body, crate::proofs::LawsReceiving::admit_ok, crate::proofs::GoesOn::not_refused))]
 pub fn receive_body(
     device: Device,
     reader: Reader,

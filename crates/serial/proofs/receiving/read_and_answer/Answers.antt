@@ -18,11 +18,10 @@ use Rattle.hdlc.specs.declared.reader.Reader.{Reader}
 use Rattle.hdlc.specs.Reader.{max_gathered, assembling, outcome, run}
 use Rattle.hdlc.specs.Rules.{rules}
 use Rattle.hdlc.proofs.ReaderRules.{rules_told}
-use Rattle.hdlc.proofs.CheckedBodies.{checked_count, tag_unchecked}
+use Rattle.hdlc.proofs.CheckedBodies.{checked_count}
 use Rattle.engine.specs.Engine.{engine}
 use Rattle.engine.proofs.ReplyBounds.{reply_bounds}
 use Rattle.serial.specs.Receiving.{unrefused}
-use borrow.Enum.Refused.{opened}
 use Rattle.serial.proofs.receiving.read_and_answer.Goals as goal
 
 -- what was read, with the fate that the pattern found
@@ -68,10 +67,3 @@ returns-in-Checked c =
       assembly = a;
       output = front_held room w.reply i;
     })
-
-pub returns : goal.returns
-unfolding unrefused
-returns c =
-    let read = c.read_frame-fate in
-    let t = tag_unchecked read.result.fate read.new.assembly (opened c.in_default.in_default-own.keys2) in
-    rw (c.without_reply.ensures, ← read.ensures, t.0, t.1)

@@ -6,7 +6,7 @@ use lib.ListN.{length, take}
 use lib.Seq.{length-take-le}
 use Rattle.frame.proofs.FrameBounds.{frame_bounds}
 use Rattle.serial.specs.Receiving.{min_output, result_of, Keeps, breaks_rules, receive, framed}
-use Rattle.serial.proofs.LawsReceiving.{admit_err, admit_ok, unrefused_framed, Fits, unrefused_fits, framed_none, framed_some}
+use Rattle.serial.proofs.LawsReceiving.{admit_ok, unrefused_framed, Fits, unrefused_fits, framed_none, framed_some}
 use Rattle.serial.proofs.receiving.receive.Goals as goal
 use Rattle.serial.proofs.receiving.receive.Goals.{After-read_and_answer-received}
 
@@ -24,9 +24,6 @@ rest c =
     rw (k.device, k.reader, le-ltb _ _ k.room, le-ltb _ _ c.if-output-lt-MIN_OUTPUT.false, c.read_and_answer-received.ensures)
     (unrefused_framed _ _ _ _ (kept c).device)
 
-pub returns-in-Err : goal.returns-in-Err
-returns-in-Err c = rw c.without_reply.ensures (admit_err _ _ _ c.in-Err.ensures _ _).0
-
 pub returns-then-output-lt-MIN_OUTPUT : goal.returns-then-output-lt-MIN_OUTPUT
 unfolding receive breaks_rules
 returns-then-output-lt-MIN_OUTPUT c =
@@ -38,10 +35,6 @@ returns-then-output-lt-MIN_OUTPUT c =
       lt-ltb (length c.args.output.now) min_output (omega (arith, c.if-output-lt-MIN_OUTPUT.true)),
       c.without_reply-then-output-lt-MIN_OUTPUT.ensures,
     )
-
-pub read_and_answer-received-requires : goal.read_and_answer-received-requires
-read_and_answer-received-requires c =
-    let k = admit_ok _ _ _ c.in_default.ensures in record { rules = (k.device, k.reader); room = k.room }
 
 pub slice_bounds-reply-end : goal.slice_bounds-reply-end
 slice_bounds-reply-end c =
