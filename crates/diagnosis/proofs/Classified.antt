@@ -30,7 +30,7 @@ use Rattle.engine.proofs.Refusals.{status_set, refusal_status, noop_status, rese
 use Rattle.diagnosis.specs.declared.classes.Class.{Class}
 use Rattle.diagnosis.specs.declared.classes.Class.TheVariants.{UnsetLink, Stopped, Noop, Reset, Reaches}
 use Rattle.diagnosis.specs.Classes.{Report, at_step, reported, verdict_class, link_class, class_of}
-use Rattle.diagnosis.specs.Steps.{OnSetUp, passage, stops, does_noop, does_reset, reaches_property, Told}
+use Rattle.diagnosis.specs.Steps.{OnSetUp, numbered, stops, does_noop, does_reset, reaches_property, Told}
 use Rattle.diagnosis.proofs.StepsByOctets.{verdict_told}
 use Rattle.diagnosis.proofs.Fates.{checked_class}
 
@@ -79,7 +79,7 @@ module _ (d : Device) (b : List ℕ) where
   unfolding engine decide judged_by
   goes_on_lem c r start up e = rw (up, judged_as (Ok (request.Reach c r start)) e)
 
-  by_verdict : is_set_up d.settings b ≡ true → (w : Result Request Refusal) → verdict_of b ≡ w → Told b (passage w)
+  by_verdict : is_set_up d.settings b ≡ true → (w : Result Request Refusal) → verdict_of b ≡ w → Told b (numbered w)
       → Means d b (verdict_class w) (reported (verdict_class w))
   unfolding judged_by
   by_verdict up (Err r) e t = by_step (on up) e t (refusal_status d b up (status_of r) (judged_as (Err r) e))

@@ -23,19 +23,19 @@ pub record Names (b : List ℕ) (n at : ℕ) : Type 0 where
 
 -- what steps 2 to 5 come to, by the papers' numbers: a step, a status and a cause, NOOP, RESET, or a command, a row and the place of the
 -- payload
-pub data Passage : Type 0 where
-  stops : ℕ → ℕ → Option Fault → Passage
-  does_noop : Passage
-  does_reset : Passage
-  reaches_property : Command → Row → ℕ → Passage
+pub data Numbered : Type 0 where
+  stops : ℕ → ℕ → Option Fault → Numbered
+  does_noop : Numbered
+  does_reset : Numbered
+  reaches_property : Command → Row → ℕ → Numbered
 
-abbrev pub passage : Result Request Refusal → Passage
-passage (Err r) = stops (step_of r) (status_of r) (cause_of r)
-passage (Ok Noop) = does_noop
-passage (Ok Reset) = does_reset
-passage (Ok (Reach c r start)) = reaches_property c r start
+abbrev pub numbered : Result Request Refusal → Numbered
+numbered (Err r) = stops (step_of r) (status_of r) (cause_of r)
+numbered (Ok Noop) = does_noop
+numbered (Ok Reset) = does_reset
+numbered (Ok (Reach c r start)) = reaches_property c r start
 
-pub data Told (b : List ℕ) : Passage → Type 0 where
+pub data Told (b : List ℕ) : Numbered → Type 0 where
   -- step 2, "command unreadable: 9; none of 0 to 5: 5"
   command_unreadable : {f : Fault} → packed_at b 1 ≡ Err f → Told b (stops 2 9 (Some f))
   command_unknown : {n at : ℕ} → packed_at b 1 ≡ read n at → 5 < n → Told b (stops 2 5 None)
