@@ -1,7 +1,8 @@
 -- The program's chunks, one after the other.
-use Rattle.std.specs.Prelude.{Bool, true, false, Option, Some, None, Result, IsErr, ◌⊎◌, ◌≡◌, ℕ, length, take}
+use Rattle.std.specs.Prelude.{Bool, true, false, Option, Some, None, Result, Ok, IsErr, ◌⊎◌, ◌≡◌, ℕ, length, take}
 use Rattle.std.specs.declared.io.Error.{Error}
 use mathlib.Core.List.{List, [], ◌∷◌, foldl}
+use Rattle.replay.specs.declared.run.Turn.{Turn}
 use Rattle.replay.specs.Play.{State, yes_or_no}
 use Rattle.replay.specs.Chunks.{IsChunk, entry_in, is_none, after_chunk, chunk_lines}
 
@@ -25,10 +26,10 @@ pub record Turned (s p : State) (t : Option (Option Bool)) (xs : List ℕ) : Typ
   pub ended : has_ended t ≡ is_none (entry_in xs)
 
 -- a turn on a chunk that was read to the front of a space
-pub record Took (s p : State) (t : Option (Option Bool)) (space : List ℕ) : Type 0 where
-  pub read : ℕ
-  pub chunk : IsChunk (take read space)
-  pub turned : Turned s p t (take read space)
+pub record Took (s p : State) (t : Turn) (space : List ℕ) : Type 0 where
+  pub count : t.read ≡ length (take t.read space)
+  pub chunk : IsChunk (take t.read space)
+  pub turned : Turned s p t.line (take t.read space)
 
 -- chunks that are records
 pub data AllRecords : List (List ℕ) → Type 0 where
@@ -42,14 +43,16 @@ pub record Ran (s t : State) (n : ℕ) : Type 0 where
   pub count : length chunks ≡ n
   pub left : t ≡ foldl after_chunk s chunks
 
--- the chunk behind them, which is at the front of the space, is no record: the log ends there, or is at fault
-pub record NoRecord (space : List ℕ) : Type 0 where
+-- the chunk behind them, which is at the front of the space and whose octets are counted, is no record: the log ends there, or is at fault
+pub record NoRecord (r : Result ℕ Error) (space : List ℕ) : Type 0 where
   pub read : ℕ
+  pub counted : r ≡ Ok read
+  pub count : read ≡ length (take read space)
   pub fits : IsChunk (take read space)
   pub none : is_none (entry_in (take read space)) ≡ true
 
 -- the program ends at the first chunk that is no record, when a line could not be written, or after all its chunks
-pub record Ended (s p : State) (r : Result Unit Error) (space : List ℕ) : Type 0 where
+pub record Ended (s p : State) (r : Result ℕ Error) (space : List ℕ) : Type 0 where
   pub turns : ℕ
   pub ran : Ran s p turns
-  pub why : NoRecord space ⊎ (IsErr r ⊎ (turns ≡ max_chunks))
+  pub why : NoRecord r space ⊎ (IsErr r ⊎ (turns ≡ max_chunks))

@@ -6,14 +6,12 @@ mod chunks;
 mod play;
 mod run;
 
-use crate::play::Playback;
 use crate::run::run;
 use capture::Record;
 use engine::two_links;
 
 fn main(rt: HostRuntime) {
-    let mut playback = Playback::silent(two_links());
     let mut space = [0u8; Record::MAX_OCTETS];
     // Where a line cannot be written, the program ends and says nothing.
-    let _ = run(&mut playback, rt.stdin(), rt.stdout(), &mut space);
+    let _ = run(two_links(), rt.stdin(), rt.stdout(), &mut space);
 }

@@ -1,37 +1,25 @@
 // A record played to the box, or held against its reply.
-ghost use Rattle.std.specs.Prelude.{true, ◌≡◌};
+ghost use Rattle.std.specs.Prelude.{true, ◌≡◌, ◌≤◌};
 ghost use Rattle.octets.specs.Body.{Body};
 ghost use Rattle.octets.specs.Comparing.{is_same};
+ghost use Rattle.device.specs.State.{max_reply};
 ghost use Rattle.device.specs.Rules.{rules};
-ghost use Rattle.capture.specs.Records.{octet_of, entry};
-ghost use Rattle.replay.specs.Play.{yes_or_no, silent, delivered, next, line_for};
+ghost use Rattle.capture.specs.Records.{entry};
 
 use capture::Direction;
 use device::{Device, Padded};
 use engine::answer;
 use octets::same_octets;
-use std::marker::Model;
 
 // The box, and its reply to the record just before.
-#[derive(Drop)]
+#[derive(Clone, Copy)]
 pub struct Playback {
-    device: Device,
+    pub device: Device,
     // There is no heap for one of just its size. It has no octets where that record is from the box, where its body never reached the box, and
     // before the first record.
-    reply: Padded<{ Device::MAX_REPLY }>,
-}
-
-// Clauses see the state that the fields stand for.
-impl Model for Playback {
-    ghost use Rattle.replay.specs.Play.{State};
-
-    ghost Value = { State };
-
-    ghost use Rattle.replay.specs.Playback.{state_of, Keeps};
-
-    ghost view = { state_of };
-
-    ghost invariant = { Keeps };
+    pub reply: Padded<{ Device::MAX_REPLY }>,
+    ghost keeps: { rules device ≡ true },
+    ghost room: { reply.len ≤ max_reply },
 }
 
 // The line for a record: yes or no, and none for one to the box. Where there may be no record either, it is an `Option<Line>`,
@@ -39,10 +27,13 @@ impl Model for Playback {
 pub type Line = Option<bool>;
 
 impl Playback {
+    ghost use Rattle.replay.specs.Play.{yes_or_no, silent, delivered, next, line_for};
+    ghost use Rattle.replay.specs.Playback.{state_of};
+
     // No reply to hold a record against.
     pub fn silent(device: Device) -> Playback
         requires { rules device ≡ true }
-        ensures { result ≡ silent device }
+        ensures { state_of result ≡ silent device }
     {
         Playback {
             device,
@@ -58,7 +49,7 @@ impl Playback {
     fn delivered(device: Device, body: &[u8]) -> Playback
         requires rules { rules device ≡ true }
         requires body { Body body.now }
-        ensures { result ≡ delivered device body.now }
+        ensures { state_of result ≡ delivered device body.now }
     {
         if body[0] / 64 != 2 {
             return Playback::silent(device);
@@ -76,28 +67,24 @@ impl Playback {
 
     // Whether a body from the box is the reply.
     fn is_reply(&self, body: &[u8]) -> bool
-        ensures { result ≡ is_same self.now.reply body.now }
+        ensures { result ≡ is_same (state_of self.now).reply body.now }
     {
         same_octets(self.reply.octets(), body)
     }
 
-    // One record.
+    // One record. Its direction may be any octet: what does not go to the box is from it.
     #[tactic(auto, unfolding(crate::specs::Play::next, crate::specs::Play::line_for))]
-    pub fn play(&mut self, direction: Direction, body: &[u8]) -> Line
+    pub fn play(&mut self, direction: u8, body: &[u8]) -> Line
         requires { Body body.now }
-        ensures state { self.new ≡ next self.old (entry (octet_of direction) body.now) }
-        ensures line { yes_or_no result ≡ line_for self.old (entry (octet_of direction) body.now) }
+        ensures state { state_of self.new ≡ next (state_of self.old) (entry direction body.now) }
+        ensures line { yes_or_no result ≡ line_for (state_of self.old) (entry direction body.now) }
     {
-        match direction {
-            Direction::ToBox => {
-                *self = Playback::delivered(self.device, body);
-                None
-            }
-            Direction::FromBox => {
-                let is_reply = self.is_reply(body);
-                *self = Playback::silent(self.device);
-                Some(is_reply)
-            }
+        if direction == u8::from(Direction::ToBox) {
+            *self = Playback::delivered(self.device, body);
+            return None;
         }
+        let is_reply = self.is_reply(body);
+        *self = Playback::silent(self.device);
+        Some(is_reply)
     }
 }

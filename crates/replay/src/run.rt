@@ -1,18 +1,44 @@
 // Records one after the other, and their lines.
+ghost use Rattle.std.specs.Prelude.{true, ◌≡◌};
+ghost use Rattle.device.specs.Rules.{rules};
+ghost use Rattle.replay.specs.Play.{silent};
+ghost use Rattle.replay.specs.Playback.{state_of};
 ghost use Rattle.replay.specs.Run.{Turned, Took, Ended};
 
 use crate::chunks::read_chunk;
 use crate::play::{Line, Playback};
 use capture::{Record, read_record};
+use device::Device;
 use std::io;
 use std::io::{Stdin, Stdout};
 
+// A chunk of the log, played.
+#[derive(Clone, Copy)]
+pub struct Turn {
+    // How many octets the chunk has.
+    pub read: usize,
+    // None where the chunk is no record: the log ends there, or is at fault.
+    pub line: Option<Line>,
+}
+
+// A log, played.
+#[derive(Drop)]
+pub struct Replayed {
+    pub playback: Playback,
+    // How many octets the chunk has that is no record and ended the program, or that a line could not be written, which ends it too. After
+    // 2^64 - 1 chunks, 0.
+    pub last: io::Result<usize>,
+}
+
 // The record at the front of a chunk, played. None where there is none: the log ends there, or is at fault.
 fn play_chunk(playback: &mut Playback, chunk: &[u8]) -> Option<Line>
-    ensures { Turned playback.old playback.new result chunk.now }
+    ensures { Turned (state_of playback.old) (state_of playback.new) result chunk.now }
 {
     let record = read_record(chunk, 0).ok().flatten()?;
-    Some(playback.play(record.direction, &chunk[record.start..record.next]))
+    Some(playback.play(
+        u8::from(record.direction),
+        &chunk[record.start..record.next],
+    ))
 }
 
 // The next chunk of the log, played.
@@ -20,11 +46,14 @@ fn play_next(
     playback: &mut Playback,
     stdin: &mut Stdin,
     space: &mut [u8; Record::MAX_OCTETS],
-) -> Option<Line>
-    ensures { Took playback.old playback.new result space.new }
+) -> Turn
+    ensures { Took (state_of playback.old) (state_of playback.new) result space.new }
 {
     let read = read_chunk(stdin, space);
-    play_chunk(playback, &space[..read])
+    Turn {
+        read,
+        line: play_chunk(playback, &space[..read]),
+    }
 }
 
 // By a match: an `Option<bool>` is displayed by nobody else.
@@ -38,19 +67,35 @@ fn print(stdout: Stdout, line: Line) -> io::Result<()> {
 
 // Each line is written before more is read. A proved loop has to end, and nothing says that the input does. So there are 2^64 - 1 chunks at
 // most.
-pub fn run(
+fn play_log(
     playback: &mut Playback,
     mut stdin: Stdin,
     stdout: Stdout,
     space: &mut [u8; Record::MAX_OCTETS],
-) -> io::Result<()>
-    ensures { Ended playback.old playback.new result space.new }
+) -> io::Result<usize>
+    ensures { Ended (state_of playback.old) (state_of playback.new) result space.new }
 {
     for _ in 0..u64::MAX {
-        let Some(line) = play_next(playback, &mut stdin, space) else {
-            return Ok(());
+        let turn = play_next(playback, &mut stdin, space);
+        let Some(line) = turn.line else {
+            return Ok(turn.read);
         };
         print(stdout, line)?;
     }
-    Ok(())
+    Ok(0)
+}
+
+// Plays a log to a box, with nothing before the first record.
+pub fn run(
+    device: Device,
+    stdin: Stdin,
+    stdout: Stdout,
+    space: &mut [u8; Record::MAX_OCTETS],
+) -> Replayed
+    requires { rules device ≡ true }
+    ensures { Ended (silent device) (state_of result.playback) result.last space.new }
+{
+    let mut playback = Playback::silent(device);
+    let last = play_log(&mut playback, stdin, stdout, space);
+    Replayed { playback, last }
 }

@@ -8,6 +8,7 @@ use Rattle.capture.specs.Records.{entry, Located, located, Good}
 use Rattle.capture.specs.Logs.{entry_of}
 use Rattle.capture.proofs.OneRecord.{Spelled, one_record}
 use Rattle.replay.specs.Play.{next, line_for, after_all, lines_from}
+use Rattle.replay.specs.Playback.{state_of}
 use Rattle.replay.specs.Chunks.{entry_in, after_chunk, chunk_lines}
 use Rattle.replay.proofs.LawsChunks.{there, none_there, one_there}
 use Rattle.std.specs.Option.{option_flatten}
@@ -35,9 +36,11 @@ unfolding after_chunk after_all chunk_lines lines_from
 returns c =
     let f = found (goal.at.returns c).In_ok-record in
     let played = c.play.ensures in
+    let r = located c.in_ok-record.record in
+    let is = ap (λ d. entry d (take (r.next - r.start) (drop r.start c.args.chunk.now))) c.from.ensures ∙ body f.0 in
     record {
-      state = rw f.1 (played.state ∙ ap (next _) (body f.0));
-      line = rw f.1 (played.line ∙ ap (line_for c.args.playback.now) (body f.0) ∙ sym (append-nil _));
+      state = rw f.1 (played.state ∙ ap (next _) is);
+      line = rw f.1 (played.line ∙ ap (line_for (state_of c.args.playback.now)) is ∙ sym (append-nil _));
       ended = rw f.1;
     }
 
