@@ -10,7 +10,7 @@ use Rattle.std.specs.Prelude.{Ok}
 use Rattle.octets.proofs.LawsLists.{take_rest}
 use Rattle.device.specs.State.{max_reply}
 use Rattle.serial.proofs.GoesOn.{reads_within, reads_on, keeps_on}
-use Rattle.ncp.specs.declared.turn.Session.{Session}
+use Rattle.ncp.specs.declared.serve.Progress.{Progress}
 use Rattle.ncp.specs.Serve.{State, state_of, KeepsState, gives, next, feeds, fed, chunk_leaves, chunks_leave, Served, Ended}
 
 -- ---- a call
@@ -79,15 +79,15 @@ left_end s xs t rest none l = go l.calls l.same
 
 -- ---- chunks
 
-pub served_none : (s : State) (t : Session) (a : List ℕ) → state_of t a ≡ s → Served s (Ok t) a 0
+pub served_none : (s : State) (p : Progress) (a : List ℕ) → state_of p.session a ≡ s → Served s (Ok p) a 0
 unfolding chunks_leave
-served_none s t a e = record { chunks = []; count = refl; left = e }
+served_none s p a e = record { chunks = []; count = refl; left = e }
 
 -- a chunk more, for a session that goes on
-unfoldable pub served_next : (s : State) (t u : Session) (a b xs : List ℕ) (n : ℕ) → Served s (Ok t) a n
-    → state_of u b ≡ chunk_leaves (state_of t a) xs → Served s (Ok u) b (n + 1)
+unfoldable pub served_next : (s : State) (p q : Progress) (a b xs : List ℕ) (n : ℕ) → Served s (Ok p) a n
+    → state_of q.session b ≡ chunk_leaves (state_of p.session a) xs → Served s (Ok q) b (n + 1)
 unfolding chunks_leave
-served_next s t u a b xs n v left =
+served_next s p q a b xs n v left =
     record {
       chunks = v.chunks ++ (xs ∷ []);
       count = length-append v.chunks (xs ∷ []) ∙ ap (λ k. k + 1) v.count;
@@ -95,12 +95,12 @@ served_next s t u a b xs n v left =
     }
 
 -- a chunk more, with no octets: the program ends
-pub ended_next : (s : State) (t u : Session) (a b xs : List ℕ) (n : ℕ) → Served s (Ok t) a n
-    → state_of u b ≡ chunk_leaves (state_of t a) xs → xs ≡ [] → Ended s (Ok u) b
+pub ended_next : (s : State) (p q : Progress) (a b xs : List ℕ) (n : ℕ) → Served s (Ok p) a n
+    → state_of q.session b ≡ chunk_leaves (state_of p.session a) xs → xs ≡ [] → q.read ≡ 0 → Ended s (Ok q) b
 unfolding served_next
-ended_next s t u a b xs n v left none =
+ended_next s p q a b xs n v left none read =
     record {
       reads = n + 1;
-      served = served_next s t u a b xs n v left;
-      why = inr (inl (record { before = v.chunks; last = ap (λ x. v.chunks ++ (x ∷ [])) none }));
+      served = served_next s p q a b xs n v left;
+      why = inr (inl (record { before = v.chunks; last = ap (λ x. v.chunks ++ (x ∷ [])) none; read = read }));
     }

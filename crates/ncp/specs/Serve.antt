@@ -9,6 +9,7 @@ use Rattle.hdlc.specs.Reader.{fresh}
 use Rattle.device.specs.declared.state.Device.{Device}
 use Rattle.serial.specs.Receiving.{Result, Keeps}
 use Rattle.ncp.specs.declared.turn.Session.{Session}
+use Rattle.ncp.specs.declared.serve.Progress.{Progress}
 use Rattle.ncp.specs.Turn.{received, reply_body}
 
 -- what stands between two calls
@@ -70,18 +71,19 @@ max_reads = 18446744073709551615
 
 -- unless a line could not be written, the session stands where some chunks leave it, one a read. Which chunks came is the operating system's
 -- part
-pub record Served (s : State) (t : Tried Session Error) (a : List ℕ) (reads : ℕ) : Type 0 where
+pub record Served (s : State) (t : Tried Progress Error) (a : List ℕ) (reads : ℕ) : Type 0 where
   pub chunks : List (List ℕ)
   pub count : length chunks ≡ reads
-  pub left : IfOk t (λ u. state_of u a ≡ chunks_leave s chunks)
+  pub left : IfOk t (λ p. state_of p.session a ≡ chunks_leave s chunks)
 
--- the last of some chunks has no octets
-pub record LastEmpty (xss : List (List ℕ)) : Type 0 where
+-- the last of some chunks has no octets, and none were read last
+pub record LastEmpty (t : Tried Progress Error) (xss : List (List ℕ)) : Type 0 where
   pub before : List (List ℕ)
   pub last : xss ≡ before ++ ([] ∷ [])
+  pub read : IfOk t (λ p. p.read ≡ 0)
 
 -- the program ends when a line could not be written, when a read gave nothing, or after all its reads
-pub record Ended (s : State) (t : Tried Session Error) (a : List ℕ) : Type 0 where
+pub record Ended (s : State) (t : Tried Progress Error) (a : List ℕ) : Type 0 where
   pub reads : ℕ
   pub served : Served s t a reads
-  pub why : IsErr t ⊎ (LastEmpty served.chunks ⊎ (reads ≡ max_reads))
+  pub why : IsErr t ⊎ (LastEmpty t served.chunks ⊎ (reads ≡ max_reads))

@@ -12,17 +12,34 @@ use std::io;
 use std::io::{Stdin, Stdout};
 use streams::read_some;
 
+// A session after some octets of its input.
+#[derive(Clone, Copy)]
+pub struct Progress {
+    pub session: Session,
+    // How many octets were read last.
+    pub read: usize,
+}
+
+// A call, which counts what it read whether or not its line could be written.
+#[derive(Drop)]
+struct Call {
+    read: usize,
+    line: io::Result<()>,
+}
+
 // An error is that a line could not be written. It ends the program, and the session stands where the calls until then leave it.
 impl Session {
-    // One call, and its line. Returns how many octets were read.
-    fn serve_call(&mut self, stdout: Stdout, input: &[u8], assembly: &mut [u8]) -> io::Result<usize>
-        ensures read { IfOk result (λ n. n ≡ (gives (state_of self.old assembly.old) input.now).read) }
+    // One call, and its line.
+    fn serve_call(&mut self, stdout: Stdout, input: &[u8], assembly: &mut [u8]) -> Call
+        ensures read { result.read ≡ (gives (state_of self.old assembly.old) input.now).read }
         ensures state { state_of self.new assembly.new ≡ next (state_of self.old assembly.old) input.now }
     {
         let mut line = [0u8; Turn::MAX_LINE];
         let turn = self.receive_line(input, assembly, &mut line);
-        stdout.write_all(&line[..turn.len])?;
-        Ok(turn.read)
+        Call {
+            read: turn.read,
+            line: stdout.write_all(&line[..turn.len]),
+        }
     }
 
     // Calls until the chunk is used up. Reader and assembly buffer go on into the next chunk.
@@ -33,7 +50,8 @@ impl Session {
     {
         let mut rest = chunk;
         while !rest.is_empty() {
-            let read = self.serve_call(stdout, rest, assembly)?;
+            let Call { read, line } = self.serve_call(stdout, rest, assembly);
+            line?;
             rest = &rest[read..];
         }
         Ok(())
@@ -65,7 +83,7 @@ pub fn serve(
     mut stdin: Stdin,
     stdout: Stdout,
     assembly: &mut [u8],
-) -> io::Result<Session>
+) -> io::Result<Progress>
     requires rules { rules device ≡ true }
     requires room { max_gathered ≤ length assembly.old }
     ensures { Ended (start device assembly.old) result assembly.new }
@@ -75,11 +93,12 @@ pub fn serve(
         reader: Reader::fresh(),
     };
     let mut chunk = [0u8; 4096];
+    let mut read = 0;
     for _ in 0..u64::MAX {
-        let read = session.serve_read(&mut stdin, stdout, &mut chunk, assembly)?;
+        read = session.serve_read(&mut stdin, stdout, &mut chunk, assembly)?;
         if read == 0 {
-            return Ok(session);
+            return Ok(Progress { session, read });
         }
     }
-    Ok(session)
+    Ok(Progress { session, read })
 }

@@ -19,7 +19,7 @@ pub returns-then-read-eq0 : goal.returns-then-read-eq0
 returns-then-read-eq0 c =
     let w = c.loop in
     let chunk = c.serve_read.new.chunk in
-    ended_next _ w.session _ w.assembly _ (take c.in_ok-read.read chunk) _ w.invariant.served c.in_ok-read.ensures.state (ap (λ n. take n chunk) c.if-read-eq0.true)
+    ended_next _ (record { session = w.session; read = w.read }) _ w.assembly _ (take c.in_ok-read.read chunk) _ w.invariant.served c.in_ok-read.ensures.state (ap (λ n. take n chunk) c.if-read-eq0.true) c.if-read-eq0.true
 
 pub loop-preserved : goal.loop-preserved
 loop-preserved c =
@@ -27,5 +27,5 @@ loop-preserved c =
     let left = c.in_ok-read.ensures in
     record {
       keeps = left.keeps;
-      served = served_next _ w.session _ w.assembly _ (take c.in_ok-read.read c.serve_read.new.chunk) _ w.invariant.served left.state;
+      served = served_next _ (record { session = w.session; read = w.read }) _ w.assembly _ (take c.in_ok-read.read c.serve_read.new.chunk) _ w.invariant.served left.state;
     }

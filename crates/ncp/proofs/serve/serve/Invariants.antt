@@ -6,5 +6,5 @@ use Rattle.ncp.proofs.serve.serve.Given as goal
 abbrev pub invariant-loop : goal.invariant-loop
 invariant-loop l = record {
   keeps : KeepsState (state_of l.session l.assembly);
-  served : Served (start l.initial.session.device l.initial.assembly) (Ok l.session) l.assembly l.counter;
+  served : Served (start l.initial.session.device l.initial.assembly) (Ok (record { session = l.session; read = l.read })) l.assembly l.counter;
 }

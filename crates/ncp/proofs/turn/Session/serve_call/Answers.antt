@@ -27,8 +27,5 @@ pub slice_bounds-write_all-end : goal.slice_bounds-write_all-end
 slice_bounds-write_all-end c =
     sym (length-take-le _ _ (room (goal.at.slice_bounds-write_all-end c).After-receive_line-turn))
 
-pub returns-in_err-write_all-clause-state : goal.returns-in_err-write_all-clause-state
-returns-in_err-write_all-clause-state c = goes_on (goal.at.returns-in_err-write_all-clause-state c).After-receive_line-turn
-
 pub returns-clause-state : goal.returns-clause-state
 returns-clause-state c = goes_on (goal.at.returns-clause-state c).After-receive_line-turn
