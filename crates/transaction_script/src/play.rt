@@ -10,7 +10,7 @@ use transactions::{Answer, Refusal, Step, Table};
 // What is printed.
 #[derive(Clone, Copy, PartialEq, Eq)]
 pub enum Said {
-    // Nothing at all, which is a line's answer too: so it is displayed like the others.
+    // Nothing at all, which is a line's answer too; the program does not come to display it (`Script::end_line`).
     Nothing,
     // `ok`
     Done,

@@ -5,7 +5,7 @@ ghost use Rattle.transaction_script.specs.Line.{max_text};
 ghost use Rattle.transaction_script.specs.Run.{state_of, after_line, after_octet, after_octets};
 
 use crate::line::Line;
-use crate::play::play;
+use crate::play::{Said, play};
 use std::io;
 use std::io::{Stdin, Stdout};
 use streams::read_some;
@@ -30,7 +30,11 @@ impl Script {
             table: played.table,
             line: Line::fresh(),
         };
-        stdout.print(played.said)
+        match played.said {
+            // A line that asks for nothing is not displayed, since even no letters would go through a buffer.
+            Said::Nothing => Ok(()),
+            said => stdout.print(said),
+        }
     }
 
     #[tactic(auto, unfolding(crate::specs::Run::after_octet))]
