@@ -80,7 +80,12 @@ fn tell(stdout: Stdout, answer: Result<usize, Refusal>) {
             let _ = print!(stdout; "0 with {count}");
         }
         Err(refusal) => {
-            let _ = print!(stdout; "{}{}", refusal.number(), integers::cause(refusal.cause()));
+            // Out of the answer itself and not by `cause`, so that a fault that is another than the one reported shows.
+            let cause = match refusal {
+                Refusal::Misfit(cause) => cause,
+                Refusal::Malformed | Refusal::ShortList => None,
+            };
+            let _ = print!(stdout; "{}{}", refusal.number(), integers::cause(cause));
         }
     }
 }
